@@ -1,0 +1,4 @@
+pub mod Text
+pub mod Limits
+pub mod Words
+pub mod Judge

@@ -1,0 +1,4 @@
+//! The target description.
+
+pub mod parts;
+mod words;

@@ -1,0 +1,15 @@
+ghost use Rattle.description.specs.Words.{keywordOf};
+ghost use Rattle.description.specs.Judge.{judged};
+
+/// The words that a description knows.
+#[derive(Clone, Copy, PartialEq, Eq, Debug)]
+pub enum Keyword {
+    Kind,
+    Page,
+    Pages,
+    Fill,
+    Lock,
+    Box,
+    Flash,
+    Ram,
+}
