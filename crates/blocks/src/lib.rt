@@ -2,8 +2,9 @@
 //!
 //! A cipher means a `BlockMap` (specs/Ciphers.antt): a block length of 8 or 16 bytes and a
 //! one-to-one map of such blocks with its inverse. Code above is written and proved once, against
-//! that meaning. Deciphering undoes enciphering and the other way round: that is the law of the
-//! interface, which each cipher has to show.
+//! that meaning. `Lawful` is the law of the interface: the map is one-to-one, and deciphering and
+//! enciphering undo each other. It stands on `block_length`, so that each cipher has to show it and
+//! every caller has it.
 //!
 //! Open results: none.
 
@@ -17,11 +18,10 @@ use refusals::Refusal;
 pub trait BlockCipher {
     ghost map: { Self → BlockMap };
 
-    law lawful: { (c : Self) → Lawful (map c) };
-
-    /// The block length in bytes.
+    /// The block length in bytes. With it comes the law of the interface.
     fn block_length(&self) -> usize
-        ensures { λ r. ⌜ r ≡ map (now (self .entry)) .size ⌝ };
+        ensures value { λ r. ⌜ r ≡ map (now (self .entry)) .size ⌝ }
+        ensures lawful { λ _. ⌜ Lawful (map (now (self .entry))) ⌝ };
 
     /// Enciphers a block in place. A part of another length is refused and stays as it was.
     fn encipher(&self, block: &mut [u8]) -> Result<(), Refusal>

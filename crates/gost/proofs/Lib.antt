@@ -1,2 +1,4 @@
 pub mod Narrow
-pub mod Substitution
+pub mod Nibbles
+pub mod Feistel
+pub mod Undoing

@@ -39,5 +39,5 @@ unfoldable pub sixteen : Rows → List ℕ → List ℕ → List ℕ
 sixteen rows key block = blockOf (rounds rows (twice key) (registers block))
 
 -- the cipher of a table and key words
-unfoldable pub gost : Rows → List ℕ → BlockMap
+abbrev pub gost : Rows → List ℕ → BlockMap
 gost rows key = record { size = 8; enciphered = enciphered rows key; deciphered = deciphered rows key }

@@ -21,6 +21,9 @@ round rows x s = record { n1 = bitXor (mixed rows x (s .n1)) (s .n2); n2 = s .n1
 unfoldable pub lastRound : Rows → ℕ → Registers → Registers
 lastRound rows x s = record { n1 = s .n1; n2 = bitXor (mixed rows x (s .n1)) (s .n2) }
 
+abbrev pub swapped : Registers → Registers
+swapped s = record { n1 = s .n2; n2 = s .n1 }
+
 -- ordinary rounds, one for each word
 abbrev pub rounds : Rows → List ℕ → Registers → Registers
 rounds rows [] s = s

@@ -9,5 +9,6 @@
 
 pub mod cipher;
 pub mod key;
-pub mod rounds;
+mod rounds;
+mod substitution;
 pub mod table;

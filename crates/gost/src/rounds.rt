@@ -1,71 +1,88 @@
-//! The rounds.
+//! The rounds on the registers N1 and N2.
 
 ghost use mathlib.Core.Path.{_≡_};
-ghost use mathlib.Core.Bool.{true};
-ghost use Rattle.gost.specs.Tables.{narrowRow, narrowRows, substituted};
-ghost use Rattle.gost.specs.Rounds.{rotated, round, lastRound, rounds, closedRounds};
-ghost use Rattle.gost.specs.Cipher.{rowsOf, tableAnswer};
-ghost use Rattle.refusals.specs.Codes.{answer};
+ghost use mathlib.Core.List.{reverse};
+ghost use Rattle.gost.specs.Rounds.{rotated, round, swapped, rounds, closedRounds, forward, backward, twice};
+ghost use Rattle.gost.specs.Cipher.{rowsOf};
 use crate::table::SubstitutionTable;
-use refusals::Layer;
-use refusals::Reason;
-use refusals::Refusal;
 
 /// The registers N1 and N2.
 #[derive(Clone, Copy)]
 pub struct Registers {
-    pub n1: u32,
-    pub n2: u32,
+    pub(crate) n1: u32,
+    pub(crate) n2: u32,
 }
 
-/// Whether every number of the row is from 0 to 15.
-fn is_narrow_row(row: &[u8; 16]) -> bool
-    ensures { λ r. ⌜ r ≡ narrowRow (now (row .entry)) ⌝ }
+fn rotate(v: u32) -> u32
+    ensures { λ r. ⌜ r ≡ rotated v ⌝ }
 {
-    for x in row {
-        if *x > 15 {
-            return false;
-        }
-    }
-    true
+    v.rotate_left(11)
 }
 
-/// Whether every number of the table is from 0 to 15.
-fn is_narrow(rows: &[[u8; 16]; 8]) -> bool
-    ensures { λ r. ⌜ r ≡ narrowRows (now (rows .entry)) ⌝ }
-{
-    for row in rows {
-        if !is_narrow_row(row) {
-            return false;
+impl Registers {
+    /// An ordinary round with the word `x`.
+    fn round(self, table: &SubstitutionTable, x: u32) -> Registers
+        ensures { λ r. ⌜ r ≡ round (rowsOf (now (table .entry))) x self ⌝ }
+    {
+        let mixed = rotate(table.substitute(self.n1.wrapping_add(x)));
+        Registers {
+            n1: mixed ^ self.n2,
+            n2: self.n1,
         }
     }
-    true
-}
 
-impl SubstitutionTable {
-    /// The table of these rows. A number over 15 is refused.
-    pub fn new(rows: [[u8; 16]; 8]) -> Result<SubstitutionTable, Refusal>
-        ensures { λ r. ⌜ answer rowsOf r ≡ tableAnswer rows ⌝ }
+    /// Ordinary rounds with X0 to X7.
+    fn up(self, table: &SubstitutionTable, key: &[u32; 8]) -> Registers
+        ensures { λ r. ⌜ r ≡ rounds (rowsOf (now (table .entry))) (now (key .entry)) self ⌝ }
     {
-        if !is_narrow(&rows) {
-            return Err(Refusal {
-                reason: Reason::BadField,
-                place: 0,
-                layer: Layer::File,
-            });
+        let mut s = self;
+        for x in key {
+            s = s.round(table, *x);
         }
-        Ok(SubstitutionTable { rows })
+        s
     }
 
-    /// Each nibble replaced: its place picks the row, its value the column.
-    fn substitute(&self, x: u32) -> u32
-        ensures { λ r. ⌜ r ≡ substituted (rowsOf (now (self .entry))) x ⌝ }
+    /// Ordinary rounds with X7 to X0.
+    fn down(self, table: &SubstitutionTable, key: &[u32; 8]) -> Registers
+        ensures { λ r. ⌜ r ≡ rounds (rowsOf (now (table .entry))) (reverse (now (key .entry))) self ⌝ }
     {
-        let mut y: u32 = 0;
-        for place in (0..8usize).rev() {
-            let column = (x >> (4 * place as u32)) & 15;
-            y = (y << 4) | u32::from(self.rows[place][column as usize]);
+        let mut s = self;
+        for i in (0..8usize).rev() {
+            s = s.round(table, key[i]);
         }
-        y
+        s
+    }
+
+    /// N1 and N2 exchanged: an ordinary round and this are the last of 32 rounds.
+    fn swap(self) -> Registers
+        ensures { λ r. ⌜ r ≡ swapped self ⌝ }
+    {
+        Registers {
+            n1: self.n2,
+            n2: self.n1,
+        }
+    }
+
+    /// The 32 rounds of enciphering.
+    pub(crate) fn encipher(self, table: &SubstitutionTable, key: &[u32; 8]) -> Registers
+        ensures { λ r. ⌜ r ≡ closedRounds (rowsOf (now (table .entry))) (forward (now (key .entry))) self ⌝ }
+    {
+        let s = self.up(table, key).up(table, key).up(table, key);
+        s.down(table, key).swap()
+    }
+
+    /// The 32 rounds of deciphering.
+    pub(crate) fn decipher(self, table: &SubstitutionTable, key: &[u32; 8]) -> Registers
+        ensures { λ r. ⌜ r ≡ closedRounds (rowsOf (now (table .entry))) (backward (now (key .entry))) self ⌝ }
+    {
+        let s = self.up(table, key).down(table, key);
+        s.down(table, key).down(table, key).swap()
+    }
+
+    /// The sixteen ordinary rounds of an imitovstavka.
+    pub(crate) fn sixteen(self, table: &SubstitutionTable, key: &[u32; 8]) -> Registers
+        ensures { λ r. ⌜ r ≡ rounds (rowsOf (now (table .entry))) (twice (now (key .entry))) self ⌝ }
+    {
+        self.up(table, key).up(table, key)
     }
 }

@@ -2,7 +2,7 @@ use native.Mathlib.Omega.{arith}
 use mathlib.Core.Path.{_≡_}
 use Prim.Native.Nat.{_+_, _-_}
 use Rattle.std.proofs.shelf.Lists.{drop-all}
-use Rattle.gost.proofs.Substitution.{row-more}
+use Rattle.gost.proofs.Nibbles.{row-more}
 use Rattle.gost.proofs.table.SubstitutionTable.substitute.Needs as need
 
 pub loop-place-holds : need.loop-place-holds

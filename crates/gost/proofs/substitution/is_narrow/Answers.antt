@@ -3,7 +3,7 @@ use native.Mathlib.Omega.{arith}
 use Rattle.std.proofs.shelf.Lists.{at-drop-all}
 use Rattle.gost.specs.Tables.{narrowRows}
 use Rattle.gost.proofs.Narrow.{rows-on, rows-off}
-use Rattle.gost.proofs.rounds.is_narrow.Needs as need
+use Rattle.gost.proofs.substitution.is_narrow.Needs as need
 
 pub returns-then-not-is-narrow-row : need.returns-then-not-is-narrow-row
 returns-then-not-is-narrow-row c = sym (c .loop-row .inv ∙ rows-off (c .args .rows .now) (c .loop-row .row-index) (omega arith) (sym (c .if-not-is-narrow-row .ensures tt)))
