@@ -11,6 +11,7 @@
 ghost use mathlib.Core.Path.{_≡_};
 ghost use denote.Ref.{now};
 ghost use Rattle.refusals.specs.Codes.{outcome};
+ghost use Rattle.blocks.specs.Bytes.{xored};
 ghost use Rattle.blocks.specs.Ciphers.{BlockMap, Lawful, lengthAnswer, replaced};
 use refusals::Refusal;
 
@@ -32,4 +33,13 @@ pub trait BlockCipher {
     fn decipher(&self, block: &mut [u8]) -> Result<(), Refusal>
         ensures answer { λ r. ⌜ outcome r ≡ lengthAnswer (map (now (self .entry)) .size) (now (block .entry)) ⌝ }
         ensures block { λ _. ⌜ now (block .exit) ≡ replaced (map (now (self .entry)) .size) (map (now (self .entry)) .deciphered) (now (block .entry)) ⌝ };
+}
+
+/// Xors `with` into the front of `block`, byte by byte, as far as both go.
+pub fn xor_into(block: &mut [u8], with: &[u8])
+    ensures { λ _. ⌜ now (block .exit) ≡ xored (now (block .entry)) (now (with .entry)) ⌝ }
+{
+    for i in 0..block.len().min(with.len()) {
+        block[i] ^= with[i];
+    }
 }

@@ -49,11 +49,7 @@ fn write(block: &mut [u8], s: Registers)
 fn wrong_length() -> Refusal
     ensures { λ r. ⌜ codeOf r ≡ refuse WrongBuffer 0 Download ⌝ }
 {
-    Refusal {
-        reason: Reason::WrongBuffer,
-        place: 0,
-        layer: Layer::Download,
-    }
+    Refusal::new(Reason::WrongBuffer, 0, Layer::Download)
 }
 
 impl<'a> Gost<'a> {
@@ -64,18 +60,12 @@ impl<'a> Gost<'a> {
         Gost { table, key }
     }
 
-    /// The sixteen ordinary rounds of an imitovstavka on a block in place. A part of another length
-    /// is refused and stays as it was.
-    pub fn sixteen_rounds(&self, block: &mut [u8]) -> Result<(), Refusal>
-        ensures answer { λ r. ⌜ outcome r ≡ lengthAnswer 8 (now (block .entry)) ⌝ }
-        ensures block { λ _. ⌜ now (block .exit) ≡ replaced 8 (sixteen (rowsIn (now (self .entry))) (wordsIn (now (self .entry)))) (now (block .entry)) ⌝ }
+    /// The sixteen ordinary rounds of an imitovstavka on a block in place.
+    pub fn sixteen_rounds(&self, block: &mut [u8; 8])
+        ensures { λ _. ⌜ now (block .exit) ≡ sixteen (rowsIn (now (self .entry))) (wordsIn (now (self .entry))) (now (block .entry)) ⌝ }
     {
-        if block.len() != 8 {
-            return Err(wrong_length());
-        }
         let s = read(block);
         write(block, s.sixteen(self.table, self.key));
-        Ok(())
     }
 }
 

@@ -14,11 +14,7 @@ pub fn spread_key(key: &[u8], words: &mut [u32; 8]) -> Result<(), Refusal>
     ensures words { λ _. ⌜ now (words .exit) ≡ spread (now (key .entry)) (now (words .entry)) ⌝ }
 {
     if key.len() != 32 {
-        return Err(Refusal {
-            reason: Reason::WrongBuffer,
-            place: 0,
-            layer: Layer::File,
-        });
+        return Err(Refusal::new(Reason::WrongBuffer, 0, Layer::File));
     }
     for i in 0..8usize {
         let at = 4 * i;

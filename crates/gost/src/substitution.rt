@@ -39,11 +39,7 @@ impl SubstitutionTable {
         ensures { λ r. ⌜ answer rowsOf r ≡ tableAnswer rows ⌝ }
     {
         if !is_narrow(&rows) {
-            return Err(Refusal {
-                reason: Reason::BadField,
-                place: 0,
-                layer: Layer::File,
-            });
+            return Err(Refusal::new(Reason::BadField, 0, Layer::File));
         }
         Ok(SubstitutionTable { rows })
     }

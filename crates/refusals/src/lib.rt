@@ -68,6 +68,18 @@ pub struct Refusal {
     pub layer: Layer,
 }
 
+impl Refusal {
+    pub fn new(reason: Reason, place: u32, layer: Layer) -> Refusal
+        ensures { λ r. ⌜ r ≡ record { reason = reason; place = place; layer = layer } ⌝ }
+    {
+        Refusal {
+            reason,
+            place,
+            layer,
+        }
+    }
+}
+
 impl Reason {
     /// The number by which the reason is known.
     pub fn number(self) -> u8
