@@ -1,0 +1,51 @@
+-- Worked values of the definitions that the contracts use.
+use mathlib.Core.Path.{_≡_}
+use mathlib.Core.List.{List, [], _∷_}
+use Prim.Native.Nat.{ℕ}
+use lib.ListN.{replicate}
+use Rattle.gost.specs.declared.rounds.Registers.{Registers}
+use Rattle.gost.specs.Tables.{Rows}
+use Rattle.gost.specs.Rounds.{round}
+use Rattle.gost.specs.Cipher.{enciphered}
+use Rattle.imitovstavka.specs.Chain.{imitovstavka}
+
+-- a table whose rows leave each number as it is, and one of zeros
+abbrev pub identity : Rows
+identity = replicate 8 (0 ∷ 1 ∷ 2 ∷ 3 ∷ 4 ∷ 5 ∷ 6 ∷ 7 ∷ 8 ∷ 9 ∷ 10 ∷ 11 ∷ 12 ∷ 13 ∷ 14 ∷ 15 ∷ [])
+
+abbrev pub zeros : Rows
+zeros = replicate 8 (replicate 16 0)
+
+abbrev pub zeroKey : List ℕ
+zeroKey = replicate 8 0
+
+abbrev pub both : ℕ → ℕ → Registers
+both n1 n2 = record { n1 = n1; n2 = n2 }
+
+-- an image of nine bytes, and a text of two blocks
+abbrev pub nine : List ℕ
+nine = 0x01 ∷ 0x02 ∷ 0x03 ∷ 0x04 ∷ 0x05 ∷ 0x06 ∷ 0x07 ∷ 0x08 ∷ 0x11 ∷ []
+
+abbrev pub two : List ℕ
+two = 0x01 ∷ 0x02 ∷ 0x03 ∷ 0x04 ∷ 0x05 ∷ 0x06 ∷ 0x07 ∷ 0x08 ∷ 0x10 ∷ 0x20 ∷ 0x30 ∷ 0x40 ∷ 0x50 ∷ 0x60 ∷ 0x70 ∷ 0x80 ∷ []
+
+-- one ordinary round with the identity table
+abbrev pub Rounds : Type 0
+Rounds =
+    (round identity 0 (both 1 0) ≡ both 0x800 1)
+    × (round identity 0 (both 0x00200000 0) .n1 ≡ 1)
+    × (round identity 1 (both 0xFFFFFFFF 5) .n1 ≡ 5)
+
+-- a block enciphered with zeros for table and key
+abbrev pub Enciphering : Type 0
+Enciphering = enciphered zeros zeroKey (1 ∷ 2 ∷ 3 ∷ 4 ∷ 5 ∷ 6 ∷ 7 ∷ 8 ∷ []) ≡ 5 ∷ 6 ∷ 7 ∷ 8 ∷ 1 ∷ 2 ∷ 3 ∷ 4 ∷ []
+
+-- with zeros for table and key: two whole blocks at 32 and 16 bits, and the image of nine bytes
+abbrev pub Imitovstavki : Type 0
+Imitovstavki =
+    (imitovstavka zeros zeroKey 32 two ≡ 0x44332211)
+    × (imitovstavka zeros zeroKey 16 two ≡ 0x4433)
+    × (imitovstavka zeros zeroKey 32 nine ≡ 0x04030210)
+
+abbrev pub WorkedValues : Type 0
+WorkedValues = Rounds × Enciphering × Imitovstavki
