@@ -1,6 +1,6 @@
 -- Worked values of the definitions that the contracts use.
 use mathlib.Core.Path.{_≡_}
-use mathlib.Core.List.{List, [], _∷_}
+use mathlib.Core.List.{List, [], _∷_, _++_}
 use Prim.Native.Nat.{ℕ}
 use lib.ListN.{replicate}
 use Rattle.gost.specs.declared.rounds.Registers.{Registers}
@@ -40,12 +40,14 @@ Rounds =
 abbrev pub Enciphering : Type 0
 Enciphering = enciphered zeros zeroKey (1 ∷ 2 ∷ 3 ∷ 4 ∷ 5 ∷ 6 ∷ 7 ∷ 8 ∷ []) ≡ 5 ∷ 6 ∷ 7 ∷ 8 ∷ 1 ∷ 2 ∷ 3 ∷ 4 ∷ []
 
--- with zeros for table and key: two whole blocks at 32 and 16 bits, and the image of nine bytes
+-- with zeros for table and key: two whole blocks at 32 and 16 bits, the image of nine bytes, and the
+-- wrong reading of that image on a page of 16 bytes with fill 255
 abbrev pub Imitovstavki : Type 0
 Imitovstavki =
     (imitovstavka zeros zeroKey 32 two ≡ 0x44332211)
     × (imitovstavka zeros zeroKey 16 two ≡ 0x4433)
     × (imitovstavka zeros zeroKey 32 nine ≡ 0x04030210)
+    × (imitovstavka zeros zeroKey 32 (nine ++ replicate 7 255) ≡ 0xFBFCFD10)
 
 abbrev pub WorkedValues : Type 0
 WorkedValues = Rounds × Enciphering × Imitovstavki
