@@ -1,9 +1,6 @@
-use mathlib.Core.Path.{_≡_, sym, _∙_, ap}
-use Rattle.blocks.proofs.Lengths.{accepted, replaced-is}
-use Rattle.blocks.specs.Bytes.{Block}
-use Rattle.blocks.specs.Ciphers.{replaced}
-use Rattle.gost.specs.Rounds.{closedRounds, forward}
-use Rattle.gost.specs.Cipher.{registers, blockOf, enciphered, deciphered}
+use mathlib.Core.Path.{_≡_}
+use Rattle.blocks.proofs.Lengths.{turned}
+use Rattle.gost.specs.Cipher.{enciphered, deciphered}
 use Rattle.gost.proofs.Undoing.{back, enciphered-block}
 use Rattle.gost.proofs.cipher.GostCipher.encipher.Needs as need
 
@@ -14,14 +11,7 @@ returns c =
     let key = c .args .self .now .key .now in
     let block = c .args .block .now in
     let long = c .if-block-ne8 .left in
-    let made : c .write .last .block ≡ enciphered rows key block
-    = c .write .ensures ∙ ap blockOf (c .encipher .ensures ∙ ap (closedRounds rows (forward key)) (c .read-s .ensures .value)) in
-    let whole : Block 8 block = (long, c .read-s .ensures .bytes) in
-    record {
-      answer = accepted 8 block long;
-      block = made ∙ sym (replaced-is 8 (enciphered rows key) block long);
-      undone =
-          ap (λ b. replaced 8 (deciphered rows key) b) made
-          ∙ (replaced-is 8 (deciphered rows key) (enciphered rows key block) (enciphered-block rows key block .0)
-          ∙ back rows (c .args .self .now .table .now .checked) key block whole);
-    }
+    let made : c .write .last .block ≡ enciphered rows key block = cc in
+    let t = turned 8 (enciphered rows key) (deciphered rows key) block (c .write .last .block) long (enciphered-block rows key block .0)
+    (back rows (c .args .self .now .table .now .checked) key block (long, c .read-s .ensures .bytes)) made in
+    record { answer = t .0; block = t .1; undone = t .2 }
