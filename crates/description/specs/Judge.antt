@@ -15,8 +15,8 @@ use Rattle.refusals.specs.declared.Reason.the-variants.{MalformedLine, Repeated
 use Rattle.refusals.specs.declared.Layer.the-variants.{Description}
 use Rattle.refusals.specs.Codes.{Code, refuse}
 use Rattle.gost.specs.Tables.{Rows, narrowRow}
-use Rattle.description.specs.declared.words.Keyword.{Keyword}
-use Rattle.description.specs.declared.words.Keyword.the-variants as key
+use Rattle.description.specs.declared.keywords.Keyword.{Keyword}
+use Rattle.description.specs.declared.keywords.Keyword.the-variants as key
 use Rattle.description.specs.declared.parts.TargetKind.{TargetKind}
 use Rattle.description.specs.declared.parts.TargetKind.the-variants.{Flash, Ram}
 use Rattle.description.specs.Text.{lines}

@@ -2,3 +2,4 @@ pub mod Text
 pub mod Limits
 pub mod Words
 pub mod Judge
+pub mod Scan

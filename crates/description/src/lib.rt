@@ -1,4 +1,5 @@
 //! The target description.
 
+mod keywords;
 pub mod parts;
 mod words;
