@@ -1,11 +1,14 @@
 -- How the words of a text are read one after another.
 use mathlib.Core.Bool.{cond}
 use mathlib.Core.List.{List, [], _∷_}
-use Prim.Native.Nat.{ℕ, _+_}
+use mathlib.Core.Path.{_≡_}
+use Prim.Native.Nat.{ℕ, _+_, _<_}
 use lib.Dec.{eqb}
+use lib.ListN.{length}
+use Rattle.description.specs.declared.scanner.Scanner.{Scanner}
 use Rattle.description.specs.declared.words.Word.{Word}
 use Rattle.description.specs.declared.words.Word.the-variants as word
-use Rattle.description.specs.Words.{Token, keyword, number, other}
+use Rattle.description.specs.Words.{Token, keyword, number, other, tokens}
 
 -- how many of the first bytes are spaces
 abbrev pub blankLen : List ℕ → ℕ
@@ -27,3 +30,28 @@ seen (word.Keyword k) = some (keyword k)
 seen (word.Number n) = some (number n)
 seen (word.Other bytes) = some (other (bytes .now))
 seen word.EndOfLine = end
+
+-- what a scanner has yet to read, and the line that it is at
+abbrev pub restOf : Scanner → List ℕ
+restOf s = s .rest .now
+
+abbrev pub lineAt : Scanner → ℕ
+lineAt s = s .line
+
+-- the first line of a text, and what follows it
+abbrev pub lineOf : List ℕ → List ℕ
+lineOf [] = []
+lineOf (x ∷ xs) = cond (eqb x 10) [] (x ∷ lineOf xs)
+
+unfoldable pub afterLine : List ℕ → List ℕ
+afterLine [] = []
+afterLine (x ∷ xs) = cond (eqb x 10) xs (afterLine xs)
+
+-- the words ahead on the line
+unfoldable pub ahead : List ℕ → List Token
+ahead xs = tokens (lineOf xs)
+
+-- one word on, from xs at line m to ys at line n; a line's end is counted where text is left
+abbrev pub Next : Seen → List ℕ → ℕ → List ℕ → ℕ → Type 0
+Next (some t) xs m ys n = (ahead xs ≡ t ∷ ahead ys) × (afterLine ys ≡ afterLine xs) × (n ≡ m)
+Next end xs m ys n = (ahead xs ≡ []) × (ys ≡ afterLine xs) × (0 < length ys → n ≡ m + 1)

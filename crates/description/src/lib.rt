@@ -2,4 +2,6 @@
 
 mod keywords;
 pub mod parts;
+mod scan;
+mod scanner;
 mod words;
