@@ -1,3 +1,4 @@
 pub mod Steps
 pub mod Spelled
 pub mod Ahead
+pub mod Marks

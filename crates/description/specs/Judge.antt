@@ -20,7 +20,7 @@ use Rattle.description.specs.declared.keywords.Keyword.the-variants as key
 use Rattle.description.specs.declared.parts.TargetKind.{TargetKind}
 use Rattle.description.specs.declared.parts.TargetKind.the-variants.{Flash, Ram}
 use Rattle.description.specs.Text.{lines}
-use Rattle.description.specs.Limits.{allowedLength, allowedCount, fits}
+use Rattle.description.specs.Limits.{allowedLength, allowedCount, fitsCount, fitsLength, below}
 use Rattle.description.specs.Words.{Token, keyword, number, other, tokens}
 
 -- what a description says
@@ -90,18 +90,6 @@ allNumbers (other bytes ∷ ts) = None
 -- a value that is not allowed comes before one that was given already
 abbrev pub ruled : Bool → Bool → Draft → Result Draft Reason
 ruled allowed again next = cond allowed (cond again (Err RepeatedLine) (Ok next)) (Err MalformedLine)
-
-abbrev pub fitsCount : ℕ → Option ℕ → Bool
-fitsCount pageLength None = true
-fitsCount pageLength (Some count) = fits pageLength count
-
-abbrev pub fitsLength : ℕ → Option ℕ → Bool
-fitsLength count None = true
-fitsLength count (Some pageLength) = fits pageLength count
-
-abbrev pub below : ℕ → Option ℕ → Bool
-below page None = false
-below page (Some count) = ltb page count
 
 abbrev pub kindLine : Draft → Option TargetKind → Result Draft Reason
 kindLine d None = Err MalformedLine

@@ -3,3 +3,4 @@ pub mod Limits
 pub mod Words
 pub mod Judge
 pub mod Scan
+pub mod Meaning

@@ -1,6 +1,8 @@
 //! The target description.
 
+mod draft;
 mod keywords;
+mod lines;
 pub mod parts;
 mod scan;
 mod scanner;

@@ -1,0 +1,20 @@
+-- What the code's values say.
+use mathlib.Core.List.{List}
+use Rattle.std.specs.declared.result.Result.{Result}
+use Rattle.std.specs.declared.result.Result.the-variants.{Ok, Err}
+use Rattle.refusals.specs.declared.Reason.{Reason}
+use Rattle.gost.specs.Cipher.{rowsOf}
+use Rattle.description.specs.declared.draft.Draft.{Draft as Lines}
+use Rattle.description.specs.declared.parts.Description.{Description}
+use Rattle.description.specs.Judge.{Described, Draft}
+
+abbrev pub meaningOf : Description → Described
+meaningOf d = record { kind = d .kind; pageLength = d .«page_length»; pageCount = d .«page_count»; fill = d .fill; locked = d .locked; rows = rowsOf (d .table) }
+
+abbrev pub partsOf : Lines → Draft
+partsOf d = record { kind = d .kind; pageLength = d .«page_length»; pageCount = d .«page_count»; fill = d .fill; locked = d .locked; locks = d .locks; rows = d .rows; given = d .given }
+
+-- what a line led to, where it was taken or refused
+abbrev pub taken : Result Unit Reason → Draft → Result Draft Reason
+taken (Ok u) d = Ok d
+taken (Err why) d = Err why
