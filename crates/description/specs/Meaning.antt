@@ -1,12 +1,16 @@
 -- What the code's values say.
+use mathlib.Core.Path.{_≡_}
 use mathlib.Core.List.{List}
+use Prim.Native.Nat.{ℕ}
+use Rattle.std.specs.declared.option.Option.{Option}
 use Rattle.std.specs.declared.result.Result.{Result}
 use Rattle.std.specs.declared.result.Result.the-variants.{Ok, Err}
 use Rattle.refusals.specs.declared.Reason.{Reason}
+use Rattle.refusals.specs.declared.Reason.the-variants.{MalformedLine}
 use Rattle.gost.specs.Cipher.{rowsOf}
 use Rattle.description.specs.declared.draft.Draft.{Draft as Lines}
 use Rattle.description.specs.declared.parts.Description.{Description}
-use Rattle.description.specs.Judge.{Described, Draft}
+use Rattle.description.specs.Judge.{Described, Draft, boxLine}
 
 abbrev pub meaningOf : Description → Described
 meaningOf d = record { kind = d .kind; pageLength = d .«page_length»; pageCount = d .«page_count»; fill = d .fill; locked = d .locked; rows = rowsOf (d .table) }
@@ -18,3 +22,7 @@ partsOf d = record { kind = d .kind; pageLength = d .«page_length»; pageCount 
 abbrev pub taken : Result Unit Reason → Draft → Result Draft Reason
 taken (Ok u) d = Ok d
 taken (Err why) d = Err why
+
+-- numbers that are no row of a table, whatever was given before
+abbrev pub NoRow : Option (List ℕ) → Type 0
+NoRow numbers = (d : Draft) → boxLine d numbers ≡ Err MalformedLine

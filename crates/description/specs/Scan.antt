@@ -55,3 +55,7 @@ ahead xs = tokens (lineOf xs)
 abbrev pub Next : Seen → List ℕ → ℕ → List ℕ → ℕ → Type 0
 Next (some t) xs m ys n = (ahead xs ≡ t ∷ ahead ys) × (afterLine ys ≡ afterLine xs) × (n ≡ m)
 Next end xs m ys n = (ahead xs ≡ []) × (ys ≡ afterLine xs) × (0 < length ys → n ≡ m + 1)
+
+-- the line was read to its end
+abbrev pub Ended : Scanner → Scanner → Type 0
+Ended s t = (restOf t ≡ afterLine (restOf s)) × (0 < length (restOf t) → lineAt t ≡ lineAt s + 1)

@@ -4,6 +4,7 @@ mod draft;
 mod keywords;
 mod lines;
 pub mod parts;
+mod reading;
 mod scan;
 mod scanner;
 mod words;
