@@ -3,3 +3,4 @@ pub mod Spelled
 pub mod Ahead
 pub mod Marks
 pub mod Numbers
+pub mod Judged

@@ -149,11 +149,17 @@ judgedLine d (keyword k ∷ ts) = keywordLine d k ts
 judgedLine d (number n ∷ ts) = Err MalformedLine
 judgedLine d (other bytes ∷ ts) = Err MalformedLine
 
+-- ---- refusals
+
+-- every refusal is by the layer of descriptions
+abbrev pub refused : Reason → ℕ → Code
+refused why place = refuse why place Description
+
 -- ---- the end of the text
 
 -- the part, or that it is missing: 1 kind, 2 page, 3 pages, 4 fill, 5 a box row
 abbrev pub needed : {X Y : Type 0} → ℕ → Option X → (X → Result Y Code) → Result Y Code
-needed which None next = Err (refuse MissingPart which Description)
+needed which None next = Err (refused MissingPart which)
 needed which (Some x) next = next x
 
 abbrev pub allGiven : List Bool → Bool
@@ -165,16 +171,18 @@ completed d =
     needed 1 (d .kind) (λ kind. needed 2 (d .pageLength) (λ pageLength. needed 3 (d .pageCount) (λ pageCount. needed 4 (d .fill) (λ fill.
     cond (allGiven (d .given))
     (Ok (record { kind = kind; pageLength = pageLength; pageCount = pageCount; fill = fill; locked = d .locked; rows = d .rows }))
-    (Err (refuse MissingPart 5 Description))))))
+    (Err (refused MissingPart 5))))))
 
 -- ---- the whole text, whose lines are counted from 1
+
+-- the first line that is refused decides
+abbrev pub onward : ℕ → Result Draft Reason → (Draft → Result Described Code) → Result Described Code
+onward line (Ok next) rest = rest next
+onward line (Err why) rest = Err (refused why line)
+
 abbrev pub judgedLines : ℕ → Draft → List (List ℕ) → Result Described Code
 judgedLines line d [] = completed d
-judgedLines line d (l ∷ ls) =
-    elim (judgedLine d (tokens l)) [
-      | Ok next ↦ judgedLines (line + 1) next ls
-      | Err why ↦ Err (refuse why line Description)
-    ]
+judgedLines line d (l ∷ ls) = onward line (judgedLine d (tokens l)) (λ next. judgedLines (line + 1) next ls)
 
 unfoldable pub judged : List ℕ → Result Described Code
-judged text = cond (leb (length text) 4096) (judgedLines 1 blank (lines text)) (Err (refuse WrongSize 0 Description))
+judged text = cond (leb (length text) 4096) (judgedLines 1 blank (lines text)) (Err (refused WrongSize 0))
