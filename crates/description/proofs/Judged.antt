@@ -23,7 +23,7 @@ unfoldable pub judgedFrom : ℕ → Draft → List ℕ → Result Described Code
 judgedFrom n d xs = judgedLines n d (lines xs)
 
 -- the first line, and those of what follows it
-lines-step : (xs : List ℕ) → (lines xs ≡ lineOf xs ∷ lines (afterLine xs)) ⊎ ((lines xs ≡ lineOf xs ∷ []) × (afterLine xs ≡ []))
+pub lines-step : (xs : List ℕ) → (lines xs ≡ lineOf xs ∷ lines (afterLine xs)) ⊎ ((lines xs ≡ lineOf xs ∷ []) × (afterLine xs ≡ []))
 unfolding lines afterLine
 lines-step [] = inr (refl, refl)
 lines-step (x ∷ xs) =

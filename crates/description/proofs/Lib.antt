@@ -4,3 +4,4 @@ pub mod Ahead
 pub mod Marks
 pub mod Numbers
 pub mod Judged
+pub mod FirstBad

@@ -4,3 +4,4 @@ pub mod Words
 pub mod Judge
 pub mod Scan
 pub mod Meaning
+pub mod Laws

@@ -28,6 +28,7 @@ mod words;
 ghost use mathlib.Core.Path.{_≡_};
 ghost use Rattle.refusals.specs.Codes.{answer};
 ghost use Rattle.description.specs.Judge.{judged};
+ghost use Rattle.description.specs.Laws.{FirstBadLineDecides};
 ghost use Rattle.description.specs.Meaning.{meaningOf};
 use draft::Draft;
 use finish::finish;
@@ -41,7 +42,8 @@ use scanner::Scanner;
 /// Reads a description. The first line that is malformed or repeats an earlier one is refused at its
 /// number, and a part that is missing at the end by its own.
 pub fn describe(text: &[u8]) -> Result<Description, Refusal>
-    ensures { λ r. ⌜ answer meaningOf r ≡ judged (now (text .entry)) ⌝ }
+    ensures value { λ r. ⌜ answer meaningOf r ≡ judged (now (text .entry)) ⌝ }
+    ensures prefix { λ _. ⌜ FirstBadLineDecides ⌝ }
 {
     if text.len() > 4096 {
         return Err(refusal(Reason::WrongSize, 0));

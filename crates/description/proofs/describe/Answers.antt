@@ -7,11 +7,13 @@ use Rattle.std.specs.declared.result.Result.the-variants.{Ok, Err}
 use Rattle.description.specs.Judge.{blank}
 use Rattle.description.specs.Scan.{restOf, lineAt}
 use Rattle.description.specs.Meaning.{partsOf}
+use Rattle.description.proofs.FirstBad.{first-bad}
 use Rattle.description.proofs.Judged.{judgedFrom, after-less, at-end, refused-line, taken-line, too-long, from-first}
 use Rattle.description.proofs.describe.Needs as need
 
 pub returns-then-text-gt4096 : need.returns-then-text-gt4096
-returns-then-text-gt4096 c = ap Err (c .refusal .ensures) ∙ sym (too-long (c .args .text .now) (omega arith))
+returns-then-text-gt4096 c =
+    record { value = ap Err (c .refusal .ensures) ∙ sym (too-long (c .args .text .now) (omega arith)); prefix = first-bad }
 
 pub loop-scanner-holds : need.loop-scanner-holds
 loop-scanner-holds c =
@@ -23,8 +25,8 @@ loop-scanner-holds c =
 pub returns-in-Err : need.returns-in-Err
 returns-in-Err c =
     let s = c .loop-scanner .scanner in
-    ap Err (c .refusal-in-Err .ensures)
-    ∙ (sym (refused-line (lineAt s) (partsOf (c .loop-scanner .draft)) (restOf s) (c .in-Err .reason) (sym (c .in-Err .ensures tt .value))) ∙ sym (c .loop-scanner .inv))
+    let line = refused-line (lineAt s) (partsOf (c .loop-scanner .draft)) (restOf s) (c .in-Err .reason) (sym (c .in-Err .ensures tt .value)) in
+    record { value = ap Err (c .refusal-in-Err .ensures) ∙ (sym line ∙ sym (c .loop-scanner .inv)); prefix = first-bad }
 
 pub loop-scanner-less : need.loop-scanner-less
 loop-scanner-less c =
@@ -43,4 +45,5 @@ pub returns : need.returns
 returns c =
     let s = c .loop-scanner .scanner in
     let empty = eqb-true (length (restOf s)) 0 (sym (c .loop-scanner-test .ensures tt)) in
-    c .finish .ensures ∙ (sym (at-end (lineAt s) (partsOf (c .loop-scanner .draft)) (restOf s) empty) ∙ sym (c .loop-scanner .inv))
+    let end = at-end (lineAt s) (partsOf (c .loop-scanner .draft)) (restOf s) empty in
+    record { value = c .finish .ensures ∙ (sym end ∙ sym (c .loop-scanner .inv)); prefix = first-bad }
