@@ -1,22 +1,16 @@
 -- One step of each recursion over bytes, at an index of a list.
-use Prim.Native.Nat.{ℕ, _+_, _-_, _*_, _<_, _≤_, _^_, suc}
-use mathlib.Core.Path.{_≡_, refl, sym, _∙_, ap}
-use mathlib.Core.Bool.{Bool, true, false, cond, _&&_}
+use Prim.Native.Nat.{ℕ, _+_, _-_, _*_, _<_, _≤_, _^_}
+use mathlib.Core.Path.{_≡_, _∙_}
 use mathlib.Core.Logic.{_⊎_, inl, inr}
-use mathlib.Core.List.{List, [], _∷_}
+use mathlib.Core.List.{List, _∷_}
 use native.Mathlib.Omega.{arith}
 use native.Mathlib.Nat.{pow-suc}
 use native.Mathlib.Numerals.{add-one}
-use lib.Chars.{codes}
-use lib.Dec.{eqb, leb}
-use lib.ListN.{length, drop, take, getD}
-use Rattle.std.proofs.shelf.Equals.{sameBytes-decides}
+use lib.ListN.{length, drop, getD}
 use Rattle.std.proofs.shelf.Tests.{le-leb, lt-leb, eq-eqb, ne-eqb}
 use Rattle.std.proofs.shelf.Lists.{at-drop-more}
-use Rattle.std.specs.shelf.Text.{sameBytes}
-use Rattle.std.specs.declared.option.Option.{Option}
-use Rattle.std.specs.declared.option.Option.the-variants.{Some, None}
-use Rattle.description.specs.Words.{digitsAfter, numberOf, keywordOf}
+use Rattle.std.specs.declared.option.Option.the-variants.{None}
+use Rattle.description.specs.Words.{digitsAfter, numberOf}
 use Rattle.description.specs.Scan.{blankLen, wordLen}
 
 pub digits-step : (n x : ℕ) (xs : List ℕ) → 48 ≤ x → x ≤ 57 → digitsAfter n (x ∷ xs) ≡ digitsAfter (n * 10 + (x - 48)) xs

@@ -39,13 +39,16 @@ use refusals::Reason;
 use refusals::Refusal;
 use scanner::Scanner;
 
+/// The length of the longest description, in bytes.
+const LONGEST: usize = 4096;
+
 /// Reads a description. The first line that is malformed or repeats an earlier one is refused at its
 /// number, and a part that is missing at the end by its own.
 pub fn describe(text: &[u8]) -> Result<Description, Refusal>
     ensures value { λ r. ⌜ answer meaningOf r ≡ judged (now (text .entry)) ⌝ }
     ensures prefix { λ _. ⌜ FirstBadLineDecides ⌝ }
 {
-    if text.len() > 4096 {
+    if text.len() > LONGEST {
         return Err(refusal(Reason::WrongSize, 0));
     }
     let mut scanner = Scanner::new(text);

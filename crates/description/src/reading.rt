@@ -1,16 +1,10 @@
 //! Reading the lines of a description.
 
 ghost use mathlib.Core.Path.{_≡_};
-ghost use mathlib.Core.Bool.{true};
-ghost use mathlib.Core.List.{_∷_};
-ghost use Rattle.std.specs.Results.{Cases};
 ghost use Rattle.std.specs.Vec.{made};
-ghost use Rattle.std.specs.declared.option.Option.the-variants.{Some, None};
-ghost use Rattle.refusals.specs.declared.Reason.the-variants.{MalformedLine};
-ghost use Rattle.gost.specs.Tables.{narrowRow};
 ghost use Rattle.description.specs.Judge.{soleKind, soleNumber, allNumbers, keywordLine, judgedLine};
-ghost use Rattle.description.specs.Scan.{restOf, lineAt, ahead, Ended};
-ghost use Rattle.description.specs.Meaning.{partsOf, taken, NoRow};
+ghost use Rattle.description.specs.Scan.{Ended};
+ghost use Rattle.description.specs.Meaning.{partsOf, taken, wordsOf, Read, ReadRow};
 use crate::draft::Draft;
 use crate::keywords::Keyword;
 use crate::parts::TargetKind;
@@ -18,9 +12,12 @@ use crate::scanner::Scanner;
 use crate::words::Word;
 use refusals::Reason;
 
+/// The largest number of a substitution table.
+const LARGEST: u32 = 15;
+
 /// The one number that is left on the line.
 fn sole_number(scanner: &mut Scanner) -> Result<u32, Reason>
-    ensures { λ r. ⌜ Cases r (λ n. (soleNumber (ahead (restOf (now (scanner .entry)))) ≡ Some n) × Ended (now (scanner .entry)) (now (scanner .exit))) (λ why. (why ≡ MalformedLine) × (soleNumber (ahead (restOf (now (scanner .entry)))) ≡ None)) ⌝ }
+    ensures { λ r. ⌜ Read (soleNumber (wordsOf (now (scanner .entry)))) r (now (scanner .entry)) (now (scanner .exit)) ⌝ }
 {
     let Word::Number(n) = scanner.next_word() else {
         return Err(Reason::MalformedLine);
@@ -33,7 +30,7 @@ fn sole_number(scanner: &mut Scanner) -> Result<u32, Reason>
 
 /// The one kind of target that is left on the line.
 fn sole_kind(scanner: &mut Scanner) -> Result<TargetKind, Reason>
-    ensures { λ r. ⌜ Cases r (λ k. (soleKind (ahead (restOf (now (scanner .entry)))) ≡ Some k) × Ended (now (scanner .entry)) (now (scanner .exit))) (λ why. (why ≡ MalformedLine) × (soleKind (ahead (restOf (now (scanner .entry)))) ≡ None)) ⌝ }
+    ensures { λ r. ⌜ Read (soleKind (wordsOf (now (scanner .entry)))) r (now (scanner .entry)) (now (scanner .exit)) ⌝ }
 {
     let kind = match scanner.next_word() {
         Word::Keyword(Keyword::Flash) => TargetKind::Flash,
@@ -48,7 +45,7 @@ fn sole_kind(scanner: &mut Scanner) -> Result<TargetKind, Reason>
 
 /// A row of the substitution table, after the word `box`: its place and its sixteen numbers.
 fn box_row(scanner: &mut Scanner) -> Result<(u32, [u8; 16]), Reason>
-    ensures { λ r. ⌜ Cases r (λ row. (allNumbers (ahead (restOf (now (scanner .entry)))) ≡ Some (row .0 ∷ row .1)) × (narrowRow (row .1) ≡ true) × Ended (now (scanner .entry)) (now (scanner .exit))) (λ why. (why ≡ MalformedLine) × NoRow (allNumbers (ahead (restOf (now (scanner .entry)))))) ⌝ }
+    ensures { λ r. ⌜ ReadRow (allNumbers (wordsOf (now (scanner .entry)))) r (now (scanner .entry)) (now (scanner .exit)) ⌝ }
 {
     let Word::Number(row) = scanner.next_word() else {
         return Err(Reason::MalformedLine);
@@ -58,7 +55,7 @@ fn box_row(scanner: &mut Scanner) -> Result<(u32, [u8; 16]), Reason>
         let Word::Number(n) = scanner.next_word() else {
             return Err(Reason::MalformedLine);
         };
-        if n > 15 {
+        if n > LARGEST {
             return Err(Reason::MalformedLine);
         }
         numbers[place] = n as u8;
@@ -71,7 +68,7 @@ fn box_row(scanner: &mut Scanner) -> Result<(u32, [u8; 16]), Reason>
 
 /// What follows a keyword on its line.
 fn keyword_line(keyword: Keyword, scanner: &mut Scanner, draft: &mut Draft) -> Result<(), Reason>
-    ensures value { λ r. ⌜ taken r (partsOf (now (draft .exit))) ≡ keywordLine (partsOf (now (draft .entry))) keyword (ahead (restOf (now (scanner .entry)))) ⌝ }
+    ensures value { λ r. ⌜ taken r (partsOf (now (draft .exit))) ≡ keywordLine (partsOf (now (draft .entry))) keyword (wordsOf (now (scanner .entry))) ⌝ }
     ensures ended { λ r. ⌜ made r (λ _. Ended (now (scanner .entry)) (now (scanner .exit))) ⌝ }
 {
     match keyword {
@@ -90,7 +87,7 @@ fn keyword_line(keyword: Keyword, scanner: &mut Scanner, draft: &mut Draft) -> R
 
 /// The next line.
 pub fn read_line(scanner: &mut Scanner, draft: &mut Draft) -> Result<(), Reason>
-    ensures value { λ r. ⌜ taken r (partsOf (now (draft .exit))) ≡ judgedLine (partsOf (now (draft .entry))) (ahead (restOf (now (scanner .entry)))) ⌝ }
+    ensures value { λ r. ⌜ taken r (partsOf (now (draft .exit))) ≡ judgedLine (partsOf (now (draft .entry))) (wordsOf (now (scanner .entry))) ⌝ }
     ensures ended { λ r. ⌜ made r (λ _. Ended (now (scanner .entry)) (now (scanner .exit))) ⌝ }
 {
     match scanner.next_word() {

@@ -2,7 +2,7 @@
 
 ghost use mathlib.Core.Path.{_≡_};
 ghost use Prim.Native.Nat.{_≤_};
-ghost use lib.ListN.{length, drop};
+ghost use lib.ListN.{length};
 ghost use Rattle.description.specs.Words.{numberOf, keywordOf, tokenOf};
 ghost use Rattle.description.specs.Scan.{blankLen, wordLen, seen, some};
 use crate::keywords::Keyword;

@@ -11,8 +11,8 @@ use Rattle.description.proofs.FirstBad.{first-bad}
 use Rattle.description.proofs.Judged.{judgedFrom, after-less, at-end, refused-line, taken-line, too-long, from-first}
 use Rattle.description.proofs.describe.Needs as need
 
-pub returns-then-text-gt4096 : need.returns-then-text-gt4096
-returns-then-text-gt4096 c =
+pub returns-then-text-gt-LONGEST : need.returns-then-text-gt-LONGEST
+returns-then-text-gt-LONGEST c =
     record { value = ap Err (c .refusal .ensures) ∙ sym (too-long (c .args .text .now) (omega arith)); prefix = first-bad }
 
 pub loop-scanner-holds : need.loop-scanner-holds

@@ -22,13 +22,13 @@ returns-in-rest-next-word c =
     let e = ap allNumbers (c .in-Number .ensures tt .0) ∙ ap (added (c .in-Number .row)) (c .loop-place .inv .2) in
     (refl, subst NoRow (sym e) (stopped (c .next-word-in-loop-place .result) _ _ _ _ (c .in-Number .row) ns (c .next-word-in-loop-place .ensures) (c .in-rest-next-word .not-Number) short))
 
-pub returns-then-n-gt15 : need.returns-then-n-gt15
-returns-then-n-gt15 c =
+pub returns-then-n-gt-LARGEST : need.returns-then-n-gt-LARGEST
+returns-then-n-gt-LARGEST c =
     let ns = take (c .loop-place .place) (c .loop-place .numbers) in
     let e =
     ap allNumbers (c .in-Number .ensures tt .0)
     ∙ ap (added (c .in-Number .row)) (c .loop-place .inv .2 ∙ ap (λ ts. prefixed ns (allNumbers ts)) (c .in-Number-next-word .ensures tt .0)) in
-    (refl, subst NoRow (sym e) (too-wide (c .in-Number .row) ns (c .in-Number-next-word .n) _ (c .if-n-gt15 .taken)))
+    (refl, subst NoRow (sym e) (too-wide (c .in-Number .row) ns (c .in-Number-next-word .n) _ (c .if-n-gt-LARGEST .taken)))
 
 pub loop-place-again : need.loop-place-again
 loop-place-again c =
@@ -37,8 +37,7 @@ loop-place-again c =
     let n = c .in-Number-next-word .n in
     let inv = c .loop-place .inv in
     let next = c .in-Number-next-word .ensures tt in
-    let more = take-more-set (c .loop-place .numbers) i n (omega arith) in
-    (
+    let more = take-more-set (c .loop-place .numbers) i n (omega arith) in (
       length-set (c .loop-place .numbers) i n ∙ inv .0,
       rw more (narrow-more ns n (inv .1) (omega arith)),
       inv .2 ∙ (ap (λ ts. prefixed ns (allNumbers ts)) (next .0) ∙ sym (rw more (prefixed-more ns n _))),
@@ -60,8 +59,7 @@ returns c =
     let first = c .in-Number .ensures tt in
     let ends = c .in-EndOfLine .ensures tt in
     let all : take (c .loop-place .place) ns ≡ ns = take-all (c .loop-place .place) ns (omega arith) in
-    let e = ap allNumbers (first .0) ∙ ap (added (c .in-Number .row)) (inv .2 ∙ ap (λ ts. prefixed (take (c .loop-place .place) ns) (allNumbers ts)) (ends .0)) in
-    (
+    let e = ap allNumbers (first .0) ∙ ap (added (c .in-Number .row)) (inv .2 ∙ ap (λ ts. prefixed (take (c .loop-place .place) ns) (allNumbers ts)) (ends .0)) in (
       e ∙ rw (all, prefixed-all ns),
       rw all at (inv .1),
       (ends .1 ∙ (inv .3 ∙ first .1), λ h. ends .2 h ∙ ap (λ m. m + 1) (inv .4 ∙ first .2)),

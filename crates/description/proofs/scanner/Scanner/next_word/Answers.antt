@@ -21,14 +21,14 @@ returns-then-len-eq0 c =
     let from = take (length xs - c .blanks-skip .result) (drop (c .blanks-skip .result) xs) in
     elim (c .if-from-lt1 .came) [
       | in-rest v ↦
-        let e = ap restOf (v .self-is) in
-        let empty : length from ≡ 0 = omega (arith, tests, ltb-false, leb-false) in
-        let d = drop-none from empty in
-        (ends .0, cc, λ h. absurd (omega (arith, ap length e)))
+          let e = ap restOf (v .self-is) in
+          let empty : length from ≡ 0 = omega (arith, tests, ltb-false, leb-false) in
+          let d = drop-none from empty in
+          (ends .0, cc, λ h. absurd (omega (arith, ap length e)))
       | in-len1-up v ↦
-        let e = ap restOf (v .self-is) in
-        let d = take-rest from 1 in
-        (ends .0, cc, λ h. ap lineAt (v .self-is))
+          let e = ap restOf (v .self-is) in
+          let d = take-rest from 1 in
+          (ends .0, cc, λ h. ap lineAt (v .self-is))
     ]
 
 pub returns : need.returns
