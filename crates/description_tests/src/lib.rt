@@ -8,6 +8,8 @@ mod tests {
     use description::describe;
     use description::parts::Description;
     use description::parts::TargetKind;
+    use description::parts::TargetKindDebug;
+    use description::parts::TargetKindPartialEq;
     use std::alloc::Global;
     use std::test::*;
 
@@ -23,7 +25,7 @@ box 8 00000 00001 2 3 4 5 6 7 8 9 10 11 12 13 14 00015
 ";
     const SIXTEEN_LOCKS: &[u8] = b"pages 32\nlock 0\nlock 1\nlock 2\nlock 3\nlock 4\nlock 5\nlock 6\nlock 7\nlock 8\nlock 9\nlock 10\nlock 11\nlock 12\nlock 13\nlock 14\nlock 31\n";
 
-    /// Sees that the text is refused so, by the layer of descriptions.
+    // Sees that the text is refused so, by the layer of descriptions.
     fn refused(text: &[u8], number: u8, place: u32) -> Result<(), Fail> {
         match describe(text) {
             Ok(_) => Err(Fail::new("accepted")),
@@ -42,7 +44,7 @@ box 8 00000 00001 2 3 4 5 6 7 8 9 10 11 12 13 14 00015
         }
     }
 
-    /// The two texts, one after the other.
+    // The two texts, one after the other.
     fn joined(heap: Global, first: &[u8], second: &[u8]) -> Result<Vec<u8>, Fail> {
         let mut text = Vec::new(heap);
         text.extend_from_slice(first)?;
@@ -50,7 +52,7 @@ box 8 00000 00001 2 3 4 5 6 7 8 9 10 11 12 13 14 00015
         Ok(text)
     }
 
-    /// A line of so many spaces.
+    // A line of so many spaces.
     fn spaces(heap: Global, count: usize) -> Result<Vec<u8>, Fail> {
         let mut text = Vec::new(heap);
         for _ in 0..count {
