@@ -15,12 +15,12 @@ use Rattle.refusals.specs.declared.Reason.the-variants.{MalformedLine, Repeated
 use Rattle.refusals.specs.declared.Layer.the-variants.{Description}
 use Rattle.refusals.specs.Codes.{Code, refuse}
 use Rattle.gost.specs.Tables.{Rows, narrowRow}
-use Rattle.description.specs.declared.words.Keyword.{Keyword}
-use Rattle.description.specs.declared.words.Keyword.the-variants as key
+use Rattle.description.specs.declared.keywords.Keyword.{Keyword}
+use Rattle.description.specs.declared.keywords.Keyword.the-variants as key
 use Rattle.description.specs.declared.parts.TargetKind.{TargetKind}
 use Rattle.description.specs.declared.parts.TargetKind.the-variants.{Flash, Ram}
 use Rattle.description.specs.Text.{lines}
-use Rattle.description.specs.Limits.{allowedLength, allowedCount, fits}
+use Rattle.description.specs.Limits.{allowedLength, allowedCount, fitsCount, fitsLength, below}
 use Rattle.description.specs.Words.{Token, keyword, number, other, tokens}
 
 -- what a description says
@@ -91,18 +91,6 @@ allNumbers (other bytes ∷ ts) = None
 abbrev pub ruled : Bool → Bool → Draft → Result Draft Reason
 ruled allowed again next = cond allowed (cond again (Err RepeatedLine) (Ok next)) (Err MalformedLine)
 
-abbrev pub fitsCount : ℕ → Option ℕ → Bool
-fitsCount pageLength None = true
-fitsCount pageLength (Some count) = fits pageLength count
-
-abbrev pub fitsLength : ℕ → Option ℕ → Bool
-fitsLength count None = true
-fitsLength count (Some pageLength) = fits pageLength count
-
-abbrev pub below : ℕ → Option ℕ → Bool
-below page None = false
-below page (Some count) = ltb page count
-
 abbrev pub kindLine : Draft → Option TargetKind → Result Draft Reason
 kindLine d None = Err MalformedLine
 kindLine d (Some k) =
@@ -161,11 +149,17 @@ judgedLine d (keyword k ∷ ts) = keywordLine d k ts
 judgedLine d (number n ∷ ts) = Err MalformedLine
 judgedLine d (other bytes ∷ ts) = Err MalformedLine
 
+-- ---- refusals
+
+-- every refusal is by the layer of descriptions
+abbrev pub refused : Reason → ℕ → Code
+refused why place = refuse why place Description
+
 -- ---- the end of the text
 
 -- the part, or that it is missing: 1 kind, 2 page, 3 pages, 4 fill, 5 a box row
 abbrev pub needed : {X Y : Type 0} → ℕ → Option X → (X → Result Y Code) → Result Y Code
-needed which None next = Err (refuse MissingPart which Description)
+needed which None next = Err (refused MissingPart which)
 needed which (Some x) next = next x
 
 abbrev pub allGiven : List Bool → Bool
@@ -177,16 +171,18 @@ completed d =
     needed 1 (d .kind) (λ kind. needed 2 (d .pageLength) (λ pageLength. needed 3 (d .pageCount) (λ pageCount. needed 4 (d .fill) (λ fill.
     cond (allGiven (d .given))
     (Ok (record { kind = kind; pageLength = pageLength; pageCount = pageCount; fill = fill; locked = d .locked; rows = d .rows }))
-    (Err (refuse MissingPart 5 Description))))))
+    (Err (refused MissingPart 5))))))
 
 -- ---- the whole text, whose lines are counted from 1
+
+-- the first line that is refused decides
+abbrev pub onward : ℕ → Result Draft Reason → (Draft → Result Described Code) → Result Described Code
+onward line (Ok next) rest = rest next
+onward line (Err why) rest = Err (refused why line)
+
 abbrev pub judgedLines : ℕ → Draft → List (List ℕ) → Result Described Code
 judgedLines line d [] = completed d
-judgedLines line d (l ∷ ls) =
-    elim (judgedLine d (tokens l)) [
-      | Ok next ↦ judgedLines (line + 1) next ls
-      | Err why ↦ Err (refuse why line Description)
-    ]
+judgedLines line d (l ∷ ls) = onward line (judgedLine d (tokens l)) (λ next. judgedLines (line + 1) next ls)
 
 unfoldable pub judged : List ℕ → Result Described Code
-judged text = cond (leb (length text) 4096) (judgedLines 1 blank (lines text)) (Err (refuse WrongSize 0 Description))
+judged text = cond (leb (length text) 4096) (judgedLines 1 blank (lines text)) (Err (refused WrongSize 0))

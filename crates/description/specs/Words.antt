@@ -8,8 +8,8 @@ use lib.ListN.{length}
 use Rattle.std.specs.shelf.Text.{sameBytes}
 use Rattle.std.specs.declared.option.Option.{Option}
 use Rattle.std.specs.declared.option.Option.the-variants.{Some, None}
-use Rattle.description.specs.declared.words.Keyword.{Keyword}
-use Rattle.description.specs.declared.words.Keyword.the-variants.{Kind, Page, Pages, Fill, Lock, Box, Flash, Ram}
+use Rattle.description.specs.declared.keywords.Keyword.{Keyword}
+use Rattle.description.specs.declared.keywords.Keyword.the-variants.{Kind, Page, Pages, Fill, Lock, Box, Flash, Ram}
 use Rattle.description.specs.Text.{words}
 
 -- the number that decimal digits write after n, if all are digits
