@@ -1,7 +1,7 @@
 use mathlib.Core.Path.{_∙_, ap, sym, refl}
 use Rattle.description.specs.Judge.{judgedLine}
 use Rattle.description.specs.Meaning.{partsOf}
-use Rattle.description.proofs.Exits.{on-line, no-keyword}
+use Rattle.description.proofs.FirstWord.{on-line, no-keyword}
 use Rattle.description.proofs.reading.read_line.Needs as need
 
 pub returns-in-EndOfLine : need.returns-in-EndOfLine

@@ -1,8 +1,7 @@
--- What a line leads to where its parts could not be read, and where they could.
-use mathlib.Core.Path.{_≡_, refl, sym, _∙_, ap}
+-- A line, by its first word.
+use mathlib.Core.Path.{_≡_, refl, _∙_, ap}
 use mathlib.Core.List.{List}
 use Prim.Native.Nat.{ℕ, _+_}
-use Rattle.std.specs.Results.{ErrBy}
 use Rattle.std.specs.Vec.{made}
 use Rattle.std.specs.declared.result.Result.{Result}
 use Rattle.std.specs.declared.result.Result.the-variants.{Ok, Err}
@@ -14,19 +13,6 @@ use Rattle.description.specs.declared.words.Word.{Word}
 use Rattle.description.specs.declared.words.Word.the-variants as word
 use Rattle.description.specs.Judge.{Draft, judgedLine}
 use Rattle.description.specs.Scan.{seen, restOf, lineAt, ahead, afterLine, Next, Ended}
-use Rattle.description.specs.Meaning.{taken}
-
-pub broken-line : (r : Result Unit Reason) (why : Reason) (d : Draft) (line : Result Draft Reason) → ErrBy r (λ e. e ≡ why) → why ≡ MalformedLine → line ≡ Err MalformedLine → taken r d ≡ line
-broken-line (Ok u) why d line h m e = absurd h
-broken-line (Err x) why d line h m e = ap Err (h ∙ m) ∙ sym e
-
-pub not-made : (r : Result Unit Reason) (why : Reason) (P : Unit → Type 0) → ErrBy r (λ e. e ≡ why) → made r P
-not-made (Ok u) why P h = absurd h
-not-made (Err x) why P h = tt
-
-pub either-way : (r : Result Unit Reason) (P : Type 0) → P → made r (λ _. P)
-either-way (Ok u) P p = p
-either-way (Err x) P p = tt
 
 -- a line that was read to its end from its second word on
 pub on-line : (r : Result Unit Reason) (s s' t : Scanner) → afterLine (restOf s') ≡ afterLine (restOf s) → lineAt s' ≡ lineAt s → made r (λ _. Ended s' t) → made r (λ _. Ended s t)
