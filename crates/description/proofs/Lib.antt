@@ -5,3 +5,4 @@ pub mod Marks
 pub mod Numbers
 pub mod Judged
 pub mod FirstBad
+pub mod FirstWord

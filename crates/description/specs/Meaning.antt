@@ -34,15 +34,10 @@ taken (Err why) d = Err why
 abbrev pub wordsOf : Scanner → List Token
 wordsOf s = ahead (restOf s)
 
--- the part that the line gives, read to the line's end, or that there is none
-abbrev pub Read : {X : Type 0} → Option X → Result X Reason → Scanner → Scanner → Type 0
-Read part (Ok x) s t = (part ≡ Some x) × Ended s t
-Read part (Err why) s t = (why ≡ MalformedLine) × (part ≡ None)
-
 -- numbers that are no row of a table, whatever was given before
 abbrev pub NoRow : Option (List ℕ) → Type 0
 NoRow numbers = (d : Draft) → boxLine d numbers ≡ Err MalformedLine
 
-abbrev pub ReadRow : Option (List ℕ) → Result (ℕ × List ℕ) Reason → Scanner → Scanner → Type 0
-ReadRow numbers (Ok row) s t = (numbers ≡ Some (row .0 ∷ row .1)) × (narrowRow (row .1) ≡ true) × Ended s t
-ReadRow numbers (Err why) s t = (why ≡ MalformedLine) × NoRow numbers
+abbrev pub ReadRow : Option (List ℕ) → Option (ℕ × List ℕ) → Scanner → Scanner → Type 0
+ReadRow numbers (Some row) s t = (numbers ≡ Some (row .0 ∷ row .1)) × (narrowRow (row .1) ≡ true) × Ended s t
+ReadRow numbers None s t = NoRow numbers

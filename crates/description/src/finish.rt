@@ -46,10 +46,18 @@ fn all_given(rows: &[bool; 8]) -> bool
 pub fn finish(draft: &Draft) -> Result<Description, Refusal>
     ensures { λ r. ⌜ answer meaningOf r ≡ completed (partsOf (now (draft .entry))) ⌝ }
 {
-    let kind = draft.kind.ok_or(missing(1))?;
-    let page_length = draft.page_length.ok_or(missing(2))?;
-    let page_count = draft.page_count.ok_or(missing(3))?;
-    let fill = draft.fill.ok_or(missing(4))?;
+    let Some(kind) = draft.kind else {
+        return Err(missing(1));
+    };
+    let Some(page_length) = draft.page_length else {
+        return Err(missing(2));
+    };
+    let Some(page_count) = draft.page_count else {
+        return Err(missing(3));
+    };
+    let Some(fill) = draft.fill else {
+        return Err(missing(4));
+    };
     if !all_given(&draft.given) {
         return Err(missing(5));
     }

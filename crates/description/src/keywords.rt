@@ -1,7 +1,7 @@
 //! The keywords of a description.
 
 /// The words that a description knows.
-#[derive(Clone, Copy, PartialEq, Eq, Debug)]
+#[derive(Clone, Copy)]
 pub enum Keyword {
     Kind,
     Page,

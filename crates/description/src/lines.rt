@@ -44,9 +44,12 @@ impl Draft {
     }
 
     /// A line that gives the kind.
-    pub fn kind_line(&mut self, kind: TargetKind) -> Result<(), Reason>
-        ensures { λ r. ⌜ taken r (partsOf (now (self .exit))) ≡ kindLine (partsOf (now (self .entry))) (Some kind) ⌝ }
+    pub fn kind_line(&mut self, kind: Option<TargetKind>) -> Result<(), Reason>
+        ensures { λ r. ⌜ taken r (partsOf (now (self .exit))) ≡ kindLine (partsOf (now (self .entry))) kind ⌝ }
     {
+        let Some(kind) = kind else {
+            return Err(Reason::MalformedLine);
+        };
         if self.kind.is_some() {
             return Err(Reason::RepeatedLine);
         }
@@ -55,9 +58,12 @@ impl Draft {
     }
 
     /// A line that gives the page length.
-    pub fn page_line(&mut self, n: u32) -> Result<(), Reason>
-        ensures { λ r. ⌜ taken r (partsOf (now (self .exit))) ≡ pageLine (partsOf (now (self .entry))) (Some n) ⌝ }
+    pub fn page_line(&mut self, n: Option<u32>) -> Result<(), Reason>
+        ensures { λ r. ⌜ taken r (partsOf (now (self .exit))) ≡ pageLine (partsOf (now (self .entry))) n ⌝ }
     {
+        let Some(n) = n else {
+            return Err(Reason::MalformedLine);
+        };
         if !allowed_length(n) {
             return Err(Reason::MalformedLine);
         }
@@ -74,9 +80,12 @@ impl Draft {
     }
 
     /// A line that gives the page count.
-    pub fn pages_line(&mut self, n: u32) -> Result<(), Reason>
-        ensures { λ r. ⌜ taken r (partsOf (now (self .exit))) ≡ pagesLine (partsOf (now (self .entry))) (Some n) ⌝ }
+    pub fn pages_line(&mut self, n: Option<u32>) -> Result<(), Reason>
+        ensures { λ r. ⌜ taken r (partsOf (now (self .exit))) ≡ pagesLine (partsOf (now (self .entry))) n ⌝ }
     {
+        let Some(n) = n else {
+            return Err(Reason::MalformedLine);
+        };
         if !allowed_count(n) {
             return Err(Reason::MalformedLine);
         }
@@ -93,9 +102,12 @@ impl Draft {
     }
 
     /// A line that gives the fill byte.
-    pub fn fill_line(&mut self, n: u32) -> Result<(), Reason>
-        ensures { λ r. ⌜ taken r (partsOf (now (self .exit))) ≡ fillLine (partsOf (now (self .entry))) (Some n) ⌝ }
+    pub fn fill_line(&mut self, n: Option<u32>) -> Result<(), Reason>
+        ensures { λ r. ⌜ taken r (partsOf (now (self .exit))) ≡ fillLine (partsOf (now (self .entry))) n ⌝ }
     {
+        let Some(n) = n else {
+            return Err(Reason::MalformedLine);
+        };
         if n > 255 {
             return Err(Reason::MalformedLine);
         }
@@ -107,9 +119,12 @@ impl Draft {
     }
 
     /// A line that locks a page.
-    pub fn lock_line(&mut self, page: u32) -> Result<(), Reason>
-        ensures { λ r. ⌜ taken r (partsOf (now (self .exit))) ≡ lockLine (partsOf (now (self .entry))) (Some page) ⌝ }
+    pub fn lock_line(&mut self, page: Option<u32>) -> Result<(), Reason>
+        ensures { λ r. ⌜ taken r (partsOf (now (self .exit))) ≡ lockLine (partsOf (now (self .entry))) page ⌝ }
     {
+        let Some(page) = page else {
+            return Err(Reason::MalformedLine);
+        };
         let Some(count) = self.page_count else {
             return Err(Reason::MalformedLine);
         };
@@ -125,10 +140,11 @@ impl Draft {
     }
 
     /// A line that gives a row of the substitution table.
-    pub fn box_line(&mut self, row: u32, numbers: [u8; 16]) -> Result<(), Reason>
-        requires { ⌜ narrowRow numbers ≡ true ⌝ }
-        ensures { λ r. ⌜ taken r (partsOf (now (self .exit))) ≡ boxLine (partsOf (now (self .entry))) (Some (row ∷ numbers)) ⌝ }
+    pub fn box_line(&mut self, row: (u32, [u8; 16])) -> Result<(), Reason>
+        requires { ⌜ narrowRow (row .1) ≡ true ⌝ }
+        ensures { λ r. ⌜ taken r (partsOf (now (self .exit))) ≡ boxLine (partsOf (now (self .entry))) (Some (row .0 ∷ row .1)) ⌝ }
     {
+        let (row, numbers) = row;
         if row < 1 || row > 8 {
             return Err(Reason::MalformedLine);
         }

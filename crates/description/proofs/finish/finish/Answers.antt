@@ -2,21 +2,21 @@ use borrow.Author.Needs.{needs}
 use Rattle.description.specs.Judge.{completed}
 use Rattle.description.proofs.finish.finish.Needs as need
 
-pub returns-in-Break-kind : need.returns-in-Break-kind
+pub returns-in-rest : need.returns-in-rest
 unfolding completed
-returns-in-Break-kind c = search needs
+returns-in-rest c = search needs
 
-pub returns-in-Break-page-length : need.returns-in-Break-page-length
+pub returns-in-rest-page-length : need.returns-in-rest-page-length
 unfolding completed
-returns-in-Break-page-length c = search needs
+returns-in-rest-page-length c = search needs
 
-pub returns-in-Break-page-count : need.returns-in-Break-page-count
+pub returns-in-rest-page-count : need.returns-in-rest-page-count
 unfolding completed
-returns-in-Break-page-count c = search needs
+returns-in-rest-page-count c = search needs
 
-pub returns-in-Break-fill : need.returns-in-Break-fill
+pub returns-in-rest-fill : need.returns-in-rest-fill
 unfolding completed
-returns-in-Break-fill c = search needs
+returns-in-rest-fill c = search needs
 
 pub returns-then-not-all-given : need.returns-then-not-all-given
 unfolding completed

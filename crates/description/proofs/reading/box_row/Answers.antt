@@ -20,7 +20,7 @@ returns-in-rest-next-word c =
     let ns = take (c .loop-place .place) (c .loop-place .numbers) in
     let short : length ns < 16 = omega (arith, length-take-le (c .loop-place .place) (c .loop-place .numbers) (omega arith)) in
     let e = ap allNumbers (c .in-Number .ensures tt .0) ∙ ap (added (c .in-Number .row)) (c .loop-place .inv .2) in
-    (refl, subst NoRow (sym e) (stopped (c .next-word-in-loop-place .result) _ _ _ _ (c .in-Number .row) ns (c .next-word-in-loop-place .ensures) (c .in-rest-next-word .not-Number) short))
+    subst NoRow (sym e) (stopped (c .next-word-in-loop-place .result) _ _ _ _ (c .in-Number .row) ns (c .next-word-in-loop-place .ensures) (c .in-rest-next-word .not-Number) short)
 
 pub returns-then-n-gt-LARGEST : need.returns-then-n-gt-LARGEST
 returns-then-n-gt-LARGEST c =
@@ -28,7 +28,7 @@ returns-then-n-gt-LARGEST c =
     let e =
     ap allNumbers (c .in-Number .ensures tt .0)
     ∙ ap (added (c .in-Number .row)) (c .loop-place .inv .2 ∙ ap (λ ts. prefixed ns (allNumbers ts)) (c .in-Number-next-word .ensures tt .0)) in
-    (refl, subst NoRow (sym e) (too-wide (c .in-Number .row) ns (c .in-Number-next-word .n) _ (c .if-n-gt-LARGEST .taken)))
+    subst NoRow (sym e) (too-wide (c .in-Number .row) ns (c .in-Number-next-word .n) _ (c .if-n-gt-LARGEST .taken))
 
 pub loop-place-again : need.loop-place-again
 loop-place-again c =
@@ -50,7 +50,7 @@ returns-in-rest-next-word-2 c =
     let ns = take (c .loop-place .place) (c .loop-place .numbers) in
     let full : length ns ≡ 16 = omega (arith, length-take-le (c .loop-place .place) (c .loop-place .numbers) (omega arith)) in
     let e = ap allNumbers (c .in-Number .ensures tt .0) ∙ ap (added (c .in-Number .row)) (c .loop-place .inv .2) in
-    (refl, subst NoRow (sym e) (too-many (c .next-word-2 .result) _ _ _ _ (c .in-Number .row) ns (c .next-word-2 .ensures) (c .in-rest-next-word-2 .not-EndOfLine) full))
+    subst NoRow (sym e) (too-many (c .next-word-2 .result) _ _ _ _ (c .in-Number .row) ns (c .next-word-2 .ensures) (c .in-rest-next-word-2 .not-EndOfLine) full)
 
 pub returns : need.returns
 returns c =
