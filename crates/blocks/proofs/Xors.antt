@@ -5,7 +5,7 @@ use Prim.Native.Nat.{ℕ, zero, suc, _+_, _^_, _<_, _≤_, min}
 use native.Mathlib.Omega.{arith}
 use native.Mathlib.Numerals.{add-one}
 use lib.ListN.{length, getD, set, take, replicate}
-use lib.Bits.{bitXor, xor-lt, xor-zero-r}
+use lib.Bits.{bitXor, xor-assoc, xor-self, xor-comm, xor-lt, xor-zero-l, xor-zero-r}
 use mathlib.Core.Logic.{inl, inr}
 use Rattle.std.proofs.shelf.Lists.{take-all}
 use Rattle.std.proofs.shelf.Tests.{cases-lt}
@@ -66,3 +66,40 @@ xored-padded n (x ∷ xs) (y ∷ ys) = ap (λ (zs : List ℕ). bitXor x y ∷ zs
 -- a part filled up with zeros is xored in as the part itself
 pub xored-filled : (n : ℕ) (xs ys : List ℕ) → length xs ≤ n → xored xs (filled n ys) ≡ xored xs ys
 xored-filled n xs ys h = xored-front n xs (ys ++ replicate n 0) h ∙ xored-padded n xs ys
+
+-- ---- what is xored twice is gone
+xor-undo : (x k : ℕ) → bitXor (bitXor x k) k ≡ x
+xor-undo x k = xor-assoc x k k ∙ (ap (bitXor x) (xor-self k) ∙ xor-zero-r x)
+
+xor-back : (x y : ℕ) → bitXor x (bitXor x y) ≡ y
+xor-back x y = sym (xor-assoc x x y) ∙ (ap (λ (z : ℕ). bitXor z y) (xor-self x) ∙ xor-zero-l y)
+
+xor-swap : (x y z : ℕ) → bitXor (bitXor x y) z ≡ bitXor x (bitXor z y)
+xor-swap x y z = xor-assoc x y z ∙ ap (bitXor x) (xor-comm y z)
+
+abbrev cons : ℕ → List ℕ → List ℕ
+cons h t = h ∷ t
+
+pub xored-undo : (xs ys : List ℕ) → xored (xored xs ys) ys ≡ xs
+xored-undo [] ys = refl
+xored-undo (x ∷ xs) [] = refl
+xored-undo (x ∷ xs) (y ∷ ys) = ap₂ cons (xor-undo x y) (xored-undo xs ys)
+
+pub xored-back : (xs ys : List ℕ) → length ys ≡ length xs → xored xs (xored xs ys) ≡ ys
+xored-back [] [] h = refl
+xored-back [] (y ∷ ys) h = absurd (omega arith)
+xored-back (x ∷ xs) [] h = absurd (omega arith)
+xored-back (x ∷ xs) (y ∷ ys) h = ap₂ cons (xor-back x y) (xored-back xs ys (omega arith))
+
+pub xored-swap : (xs ys zs : List ℕ) → length zs ≡ length xs → xored (xored xs ys) zs ≡ xored xs (xored zs ys)
+xored-swap [] ys zs h = refl
+xored-swap (x ∷ xs) ys [] h = absurd (omega arith)
+xored-swap (x ∷ xs) [] (z ∷ zs) h = refl
+xored-swap (x ∷ xs) (y ∷ ys) (z ∷ zs) h = ap₂ cons (xor-swap x y z) (xored-swap xs ys zs (omega arith))
+
+pub getD-xored : (xs ys : List ℕ) (p : ℕ) → length xs ≡ length ys → getD (xored xs ys) p 0 ≡ bitXor (getD xs p 0) (getD ys p 0)
+getD-xored [] [] p h = refl
+getD-xored [] (y ∷ ys) p h = absurd (omega arith)
+getD-xored (x ∷ xs) [] p h = absurd (omega arith)
+getD-xored (x ∷ xs) (y ∷ ys) zero h = refl
+getD-xored (x ∷ xs) (y ∷ ys) (suc p) h = getD-xored xs ys p (omega arith)

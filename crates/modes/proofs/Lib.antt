@@ -1,0 +1,4 @@
+pub mod Joined
+pub mod Undoing
+pub mod Reaching
+pub mod Stepping

@@ -1,0 +1,4 @@
+pub mod Counters
+pub mod Modes
+pub mod Calls
+pub mod Laws

@@ -1,0 +1,17 @@
+//! The three modes, written once over any cipher.
+//!
+//! Definitions: specs/Counters.antt and specs/Modes.antt; what the calls answer and leave,
+//! specs/Calls.antt; the laws, specs/Laws.antt.
+//!
+//! Open results: none.
+
+pub mod mode;
+
+ghost use Rattle.modes.specs.Calls.{bufferAfter};
+ghost use Rattle.modes.specs.Laws.{Undo, Reaches, StraightIsStepped};
+
+pub fn nothing() -> u8
+    ensures { λ _. ⌜ StraightIsStepped ⌝ }
+{
+    0
+}
