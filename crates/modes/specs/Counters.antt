@@ -24,6 +24,10 @@ third y i = (y + (i + 1) * 0x01010101) % 2 ^ 32
 abbrev pub fourth : ℕ → ℕ → ℕ
 fourth z i = (z + (i + 1) * 0x01010104 - 1) % (2 ^ 32 - 1) + 1
 
--- the counters of block i as a block, from a block (Y, Z)
+-- the counters of block i as a block, from Y and Z
+abbrev pub countersFrom : ℕ → ℕ → ℕ → List ℕ
+countersFrom y z i = bytesOf 4 (third y i) ++ bytesOf 4 (fourth z i)
+
+-- and from a block (Y, Z)
 abbrev pub counters : List ℕ → ℕ → List ℕ
-counters b i = bytesOf 4 (third (word (take 4 b)) i) ++ bytesOf 4 (fourth (word (drop 4 b)) i)
+counters b i = countersFrom (word (take 4 b)) (word (drop 4 b)) i

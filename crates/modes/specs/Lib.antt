@@ -2,3 +2,4 @@ pub mod Counters
 pub mod Modes
 pub mod Calls
 pub mod Laws
+pub mod Steps

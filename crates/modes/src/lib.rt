@@ -5,6 +5,7 @@
 //!
 //! Open results: none.
 
+mod masks;
 pub mod mode;
 
 ghost use Rattle.modes.specs.Calls.{bufferAfter};

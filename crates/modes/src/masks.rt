@@ -1,0 +1,94 @@
+//! The masks that counter and feedback xor to a block.
+
+ghost use mathlib.Core.Path.{_≡_};
+ghost use mathlib.Core.Logic.{_⊎_};
+ghost use Prim.Native.Nat.{ℕ, _≤_};
+ghost use lib.ListN.{length, take, drop};
+ghost use Rattle.blocks.specs.Bytes.{word};
+ghost use Rattle.modes.specs.Counters.{third, fourth, countersFrom};
+ghost use Rattle.modes.specs.Steps.{maskBy};
+ghost use Rattle.modes.specs.Calls.{syncBytes};
+use crate::mode::Mode;
+use crate::mode::Sync;
+use blocks::BlockCipher;
+
+/// Y and Z, from which the counters of each block come.
+#[derive(Clone, Copy)]
+pub(crate) struct Counters {
+    pub(crate) third: u32,
+    pub(crate) fourth: u32,
+}
+
+/// N3 of block `i`.
+fn third(y: u32, i: u64) -> u32
+    ensures { λ r. ⌜ r ≡ third y i ⌝ }
+{
+    let n = u128::from(y) + (u128::from(i) + 1) * 0x0101_0101;
+    (n % 0x1_0000_0000) as u32
+}
+
+/// N4 of block `i`, by one remainder.
+fn fourth(z: u32, i: u64) -> u32
+    ensures { λ r. ⌜ r ≡ fourth z i ⌝ }
+{
+    let n = u128::from(z) + (u128::from(i) + 1) * 0x0101_0104;
+    ((n - 1) % 0xffff_ffff) as u32 + 1
+}
+
+/// The counters of block `i` as a block of eight bytes.
+fn write_counters(from: Counters, i: u64, pad: &mut [u8])
+    requires { ⌜ length (now pad) ≡ 8 ⌝ }
+    ensures { λ _. ⌜ now (pad .exit) ≡ countersFrom (from .third) (from .fourth) i ⌝ }
+{
+    let [a, b, c, d] = third(from.third, i).to_le_bytes();
+    let [e, f, g, h] = fourth(from.fourth, i).to_le_bytes();
+    pad.copy_from_slice(&[a, b, c, d, e, f, g, h]);
+}
+
+/// Y and Z of a block of eight bytes.
+fn read_counters(block: &[u8]) -> Counters
+    requires { ⌜ length (now block) ≡ 8 ⌝ }
+    ensures third { λ r. ⌜ r .third ≡ word (take 4 (now (block .entry))) ⌝ }
+    ensures fourth { λ r. ⌜ r .fourth ≡ word (drop 4 (now (block .entry))) ⌝ }
+{
+    Counters {
+        third: u32::from_le_bytes([block[0], block[1], block[2], block[3]]),
+        fourth: u32::from_le_bytes([block[4], block[5], block[6], block[7]]),
+    }
+}
+
+/// The sync as a block: its first word, and its second where there is room.
+pub(crate) fn write_sync(sync: Option<Sync>, pad: &mut [u8])
+    requires { ⌜ (length (now pad) ≡ 8) ⊎ (length (now pad) ≡ 16) ⌝ }
+    ensures { λ _. ⌜ now (pad .exit) ≡ syncBytes (length (now (pad .entry))) sync ⌝ }
+{
+    let Some(Sync { first, second }) = sync else {
+        pad.fill(0);
+        return;
+    };
+    let [a, b, c, d, e, f, g, h] = first.to_le_bytes();
+    let [i, j, k, l, m, n, o, p] = second.to_le_bytes();
+    if pad.len() == 8 {
+        pad.copy_from_slice(&[a, b, c, d, e, f, g, h]);
+    } else {
+        pad.copy_from_slice(&[a, b, c, d, e, f, g, h, i, j, k, l, m, n, o, p]);
+    }
+}
+
+/// Turns the pad into the mask of block `i`.
+fn mask<C: BlockCipher>(cipher: &C, mode: Mode, from: Counters, i: u64, pad: &mut [u8])
+    requires size { ⌜ length (now pad) ≡ C·BlockCipher .map (now cipher) .size ⌝ }
+    requires eight { ⌜ (mode ≡ Mode.Counter → length (now pad) ≡ 8) ⌝ }
+    ensures { λ _. ⌜ now (pad .exit) ≡ maskBy mode (C·BlockCipher .map (now (cipher .entry))) (from .third) (from .fourth) i (now (pad .entry)) ⌝ }
+{
+    match mode {
+        Mode::Codebook => {}
+        Mode::Counter => {
+            write_counters(from, i, pad);
+            let _ = cipher.encipher(pad);
+        }
+        Mode::Feedback => {
+            let _ = cipher.encipher(pad);
+        }
+    }
+}
