@@ -1,15 +1,15 @@
 -- The words ahead, as the scanner finds them.
-use Prim.Native.Nat.{ℕ, _+_, _≤_, suc}
-use mathlib.Core.Path.{_≡_, refl, sym, _∙_, ap}
+use Prim.Native.Nat.{ℕ, _+_}
+use mathlib.Core.Path.{_≡_, refl, sym, _∙_}
 use mathlib.Core.Bool.{cond}
 use mathlib.Core.Logic.{inl, inr}
-use mathlib.Core.List.{List, [], _∷_, map}
+use mathlib.Core.List.{List, [], _∷_}
 use native.Mathlib.Omega.{arith}
 use native.Mathlib.Numerals.{add-one}
 use lib.Dec.{eqb}
 use lib.ListN.{length, drop, take}
 use Rattle.std.proofs.shelf.Tests.{eq-eqb, ne-eqb, cases-eq}
-use Rattle.description.specs.Text.{split, kept, grown, words}
+use Rattle.description.specs.Text.{split, kept, words}
 use Rattle.description.specs.Words.{tokenOf, tokens}
 use Rattle.description.specs.Scan.{blankLen, wordLen, lineOf, afterLine, ahead}
 

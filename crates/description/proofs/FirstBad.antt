@@ -14,9 +14,9 @@ use Rattle.std.specs.declared.result.Result.the-variants.{Ok, Err}
 use Rattle.refusals.specs.declared.Reason.{Reason}
 use Rattle.refusals.specs.declared.Reason.the-variants.{MissingPart}
 use Rattle.refusals.specs.Codes.{Code}
-use Rattle.description.specs.Text.{lines, split, grown}
+use Rattle.description.specs.Text.{lines}
 use Rattle.description.specs.Words.{tokens}
-use Rattle.description.specs.Judge.{Described, Draft, blank, needed, completed, refused, onward, judgedLine, judgedLines, judged, allGiven}
+use Rattle.description.specs.Judge.{Described, Draft, blank, needed, completed, refused, onward, judgedLine, judgedLines, allGiven}
 use Rattle.description.specs.Laws.{FirstBadLineDecides}
 use Rattle.description.proofs.Judged.{lines-step, judgedFrom, from-first}
 

@@ -1,11 +1,9 @@
 -- Judging a text line by line.
 use Prim.Native.Nat.{ℕ, _+_, _<_, _≤_}
 use mathlib.Core.Path.{_≡_, refl, sym, _∙_, ap}
-use mathlib.Core.Bool.{cond}
 use mathlib.Core.Logic.{_⊎_, inl, inr}
 use mathlib.Core.List.{List, [], _∷_}
 use native.Mathlib.Omega.{arith}
-use lib.Dec.{eqb, leb}
 use lib.ListN.{length}
 use Rattle.std.proofs.shelf.Tests.{eq-eqb, ne-eqb, cases-eq, le-leb, lt-leb}
 use Rattle.std.specs.declared.result.Result.{Result}
@@ -13,7 +11,7 @@ use Rattle.std.specs.declared.result.Result.the-variants.{Ok, Err}
 use Rattle.refusals.specs.declared.Reason.{Reason}
 use Rattle.refusals.specs.declared.Reason.the-variants.{WrongSize}
 use Rattle.refusals.specs.Codes.{Code}
-use Rattle.description.specs.Text.{lines, split, grown, words}
+use Rattle.description.specs.Text.{lines, words}
 use Rattle.description.specs.Words.{tokens}
 use Rattle.description.specs.Judge.{Described, Draft, blank, judgedLine, judgedLines, judged, completed, refused}
 use Rattle.description.specs.Scan.{lineOf, afterLine, ahead}

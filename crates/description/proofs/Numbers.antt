@@ -1,7 +1,7 @@
 -- The numbers of a box line, taken in one after another.
 use Prim.Native.Nat.{ℕ, _+_, _<_, _≤_}
-use mathlib.Core.Path.{_≡_, refl, sym, _∙_, ap, subst}
-use mathlib.Core.Bool.{Bool, true, false, cond, _&&_}
+use mathlib.Core.Path.{_≡_, refl, ap}
+use mathlib.Core.Bool.{true, false, _&&_}
 use mathlib.Core.List.{List, [], _∷_, _++_}
 use native.Mathlib.Omega.{arith}
 use lib.Dec.{eqb, leb, ltb}
@@ -12,8 +12,7 @@ use Rattle.std.specs.declared.option.Option.the-variants.{Some, None}
 use Rattle.gost.specs.Tables.{narrowRow}
 use Rattle.description.specs.declared.words.Word.{Word}
 use Rattle.description.specs.declared.words.Word.the-variants as word
-use Rattle.description.specs.Words.{Token}
-use Rattle.description.specs.Judge.{Draft, added, allNumbers}
+use Rattle.description.specs.Judge.{added, allNumbers}
 use Rattle.description.specs.Meaning.{NoRow}
 use Rattle.description.specs.Scan.{seen, ahead, Next}
 

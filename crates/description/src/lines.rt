@@ -1,4 +1,5 @@
-//! Taking in the lines of a description.
+//! Taking in the lines of a description. A part that could not be read is `None`. A line is malformed
+//! before it is repeated.
 
 ghost use mathlib.Core.Path.{_≡_};
 ghost use mathlib.Core.Bool.{true};

@@ -1,14 +1,12 @@
-use Prim.Native.Nat.{ℕ, _<_}
-use mathlib.Core.Path.{_≡_, refl, sym, _∙_, ap}
+use mathlib.Core.Path.{sym, _∙_, ap}
 use native.Mathlib.Omega.{arith}
 use lib.ListN.{length}
 use Rattle.std.proofs.shelf.Tests.{eqb-true, eqb-false}
-use Rattle.std.specs.declared.result.Result.the-variants.{Ok, Err}
-use Rattle.description.specs.Judge.{blank}
+use Rattle.std.specs.declared.result.Result.the-variants.{Err}
 use Rattle.description.specs.Scan.{restOf, lineAt}
 use Rattle.description.specs.Meaning.{partsOf}
 use Rattle.description.proofs.FirstBad.{first-bad}
-use Rattle.description.proofs.Judged.{judgedFrom, after-less, at-end, refused-line, taken-line, too-long, from-first}
+use Rattle.description.proofs.Judged.{after-less, at-end, refused-line, taken-line, too-long, from-first}
 use Rattle.description.proofs.describe.Needs as need
 
 pub returns-then-text-gt-LONGEST : need.returns-then-text-gt-LONGEST

@@ -1,14 +1,10 @@
-use borrow.Author.Needs.{needs}
-use Prim.Native.Nat.{ℕ, _+_, _<_}
+use Prim.Native.Nat.{_+_, _<_}
 use mathlib.Core.Path.{_≡_, refl, sym, _∙_, ap, subst}
-use mathlib.Core.List.{_∷_}
 use native.Mathlib.Omega.{arith}
 use lib.ListN.{length, length-set, take}
 use Rattle.std.proofs.shelf.Lists.{take-all, take-more-set, length-take-le}
-use Rattle.std.specs.declared.option.Option.the-variants.{Some}
 use Rattle.description.specs.Judge.{allNumbers, added}
 use Rattle.description.specs.Meaning.{NoRow}
-use Rattle.description.specs.Scan.{restOf, ahead}
 use Rattle.description.proofs.Numbers.{prefixed, prefixed-more, prefixed-all, narrow-more, stopped, too-wide, too-many}
 use Rattle.description.proofs.reading.box_row.Needs as need
 

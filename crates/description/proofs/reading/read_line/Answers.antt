@@ -1,4 +1,4 @@
-use mathlib.Core.Path.{_∙_, ap, sym, refl}
+use mathlib.Core.Path.{_∙_, ap, sym}
 use Rattle.description.specs.Judge.{judgedLine}
 use Rattle.description.specs.Meaning.{partsOf}
 use Rattle.description.proofs.FirstWord.{on-line, no-keyword}

@@ -1,4 +1,4 @@
-use mathlib.Core.Path.{_∙_, ap, sym}
+use mathlib.Core.Path.{_∙_, ap}
 use Rattle.description.specs.Scan.{some}
 use Rattle.description.specs.Words.{byKeyword, byNumber}
 use Rattle.description.proofs.words.class.Needs as need

@@ -1,10 +1,10 @@
-use mathlib.Core.Path.{_≡_, sym, ap}
+use mathlib.Core.Path.{sym, ap}
 use native.Mathlib.Omega.{arith}
 use borrow.Author.Tests.{tests, ltb-false, leb-false}
 use lib.Chars.{codes}
 use Rattle.std.proofs.shelf.Equals.{text-from-reads}
 use Rattle.description.specs.Words.{keywordOf}
-use Rattle.description.proofs.Spelled.{Known, unknown}
+use Rattle.description.proofs.Spelled.{unknown}
 use Rattle.description.proofs.words.named.Needs as need
 
 pub returns-in-98 : need.returns-in-98

@@ -1,10 +1,10 @@
-use Prim.Native.Nat.{_+_, _*_, _-_, _≤_}
-use mathlib.Core.Path.{_≡_, sym, _∙_, ap}
+use Prim.Native.Nat.{_+_, _-_}
+use mathlib.Core.Path.{sym, _∙_}
 use native.Mathlib.Omega.{arith}
 use lib.ListN.{length, drop, getD}
 use Rattle.std.proofs.shelf.Lists.{at-drop-more, at-drop-all}
 use Rattle.std.proofs.shelf.Tests.{eqb-false}
-use Rattle.description.specs.Words.{digitsAfter, numberOf}
+use Rattle.description.specs.Words.{digitsAfter}
 use Rattle.description.proofs.Steps.{digits-step, digits-stop, number-within, more-digits}
 use Rattle.description.proofs.words.number.Needs as need
 

@@ -1,6 +1,6 @@
-use Prim.Native.Nat.{_<_, _^_, _≤_}
+use Prim.Native.Nat.{_<_, _^_}
 use mathlib.Core.Path.{_≡_}
-use lib.ListN.{length, drop}
+use lib.ListN.{drop}
 use Rattle.description.specs.Words.{digitsAfter}
 use Rattle.description.proofs.words.number.Given as given
 

@@ -1,11 +1,10 @@
-use Prim.Native.Nat.{ℕ, _-_, _<_}
-use mathlib.Core.Path.{_≡_, sym, _∙_, subst, ap}
+use Prim.Native.Nat.{_-_}
+use mathlib.Core.Path.{_≡_, sym, subst, ap}
 use native.Mathlib.Omega.{arith}
 use borrow.Author.Tests.{tests, ltb-false, leb-false}
 use lib.ListN.{length, drop, take}
 use Rattle.std.proofs.shelf.Lists.{take-rest}
-use Rattle.description.specs.Words.{tokenOf}
-use Rattle.description.specs.Scan.{blankLen, wordLen, ahead, afterLine, restOf, lineAt, Seen, Next}
+use Rattle.description.specs.Scan.{blankLen, wordLen, restOf, lineAt, Seen, Next}
 use Rattle.description.proofs.Ahead.{line-end, word-next, drop-none}
 use Rattle.description.proofs.scanner.Scanner.next_word.Needs as need
 use Rattle.description.proofs.scanner.Scanner.next_word.Needs.{in-rest, in-len1-up}
