@@ -6,7 +6,7 @@ use native.Mathlib.Nat.{pow-suc}
 use native.Mathlib.Omega.{arith}
 use lib.ListN.{length, getD, take, drop}
 use Rattle.std.specs.shelf.Lists.{All}
-use Rattle.std.proofs.shelf.Bits.{div-below}
+use Rattle.std.proofs.shelf.Bits.{div-below, shr-shr}
 use Rattle.std.proofs.shelf.Elements.{all-from-getD}
 use Rattle.std.proofs.shelf.Lists.{drop-drop, drop-more}
 use Rattle.blocks.specs.Bytes.{Bytes, word, bytesOf, words}
@@ -77,3 +77,16 @@ word-written x =
 -- a list of bytes is known by its elements
 pub bytes-from : (bs : List ℕ) → ((i : ℕ) → getD bs i 0 < 256) → Bytes bs
 bytes-from bs h = all-from-getD (λ b. b < 256) bs 0 (λ i l. h i)
+
+-- a number of eight bytes as u64::to_le_bytes writes it
+pub long-written : (x : ℕ) →
+    x % 256 ∷ x / 256 % 256 ∷ x / 65536 % 256 ∷ x / 16777216 % 256 ∷ x / 4294967296 % 256 ∷ x / 1099511627776 % 256 ∷ x / 281474976710656 % 256 ∷ x / 72057594037927936 % 256 ∷ [] ≡ bytesOf 8 x
+long-written x =
+    let cut : ℕ → ℕ = λ n. n / 256 in
+    let two : x / 65536 ≡ x / 256 / 256 = sym (shr-shr x 8 8) in
+    let three : x / 16777216 ≡ x / 256 / 256 / 256 = sym (shr-shr x 16 8) ∙ ap cut two in
+    let four : x / 4294967296 ≡ x / 256 / 256 / 256 / 256 = sym (shr-shr x 24 8) ∙ ap cut three in
+    let five : x / 1099511627776 ≡ x / 256 / 256 / 256 / 256 / 256 = sym (shr-shr x 32 8) ∙ ap cut four in
+    let six : x / 281474976710656 ≡ x / 256 / 256 / 256 / 256 / 256 / 256 = sym (shr-shr x 40 8) ∙ ap cut five in
+    let seven : x / 72057594037927936 ≡ x / 256 / 256 / 256 / 256 / 256 / 256 / 256 = sym (shr-shr x 48 8) ∙ ap cut six in
+    rw (seven, six, five, four, three, two)

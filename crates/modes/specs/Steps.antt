@@ -2,8 +2,8 @@
 use mathlib.Core.Path.{_≡_}
 use mathlib.Core.List.{List}
 use Prim.Native.Nat.{ℕ, _≤_}
-use lib.ListN.{length}
-use Rattle.blocks.specs.Bytes.{Block, xored}
+use lib.ListN.{length, take, drop}
+use Rattle.blocks.specs.Bytes.{xored, word}
 use Rattle.blocks.specs.Ciphers.{BlockMap}
 use Rattle.modes.specs.declared.mode.Mode.{Mode}
 use Rattle.modes.specs.declared.mode.Mode.the-variants.{Codebook, Counter, Feedback}
@@ -36,3 +36,9 @@ abbrev pub Kept : Mode → ℕ → List ℕ → List ℕ → Type 0
 Kept Codebook n b pad = Unit {0}
 Kept Counter n b pad = Unit {0}
 Kept Feedback n b pad = length b ≡ n → pad ≡ b
+
+-- Y and Z are the halves of the sync enciphered
+abbrev pub FromSync : Mode → List ℕ → ℕ → ℕ → Type 0
+FromSync Codebook first y z = Unit {0}
+FromSync Counter first y z = (y ≡ word (take 4 first)) × (z ≡ word (drop 4 first))
+FromSync Feedback first y z = Unit {0}

@@ -4,13 +4,15 @@ ghost use mathlib.Core.Path.{_≡_};
 ghost use mathlib.Core.Logic.{_⊎_};
 ghost use Prim.Native.Nat.{ℕ, _≤_};
 ghost use lib.ListN.{length, take, drop};
-ghost use Rattle.blocks.specs.Bytes.{word};
+ghost use Rattle.blocks.specs.Bytes.{word, Block};
+ghost use Rattle.blocks.specs.Ciphers.{Lawful};
 ghost use Rattle.modes.specs.Counters.{third, fourth, countersFrom};
-ghost use Rattle.modes.specs.Steps.{maskBy};
+ghost use Rattle.modes.specs.Steps.{maskBy, cipherStep, plainStep, Fits, Kept, FromSync};
 ghost use Rattle.modes.specs.Calls.{syncBytes};
 use crate::mode::Mode;
 use crate::mode::Sync;
 use blocks::BlockCipher;
+use blocks::xor_into;
 
 /// Y and Z, from which the counters of each block come.
 #[derive(Clone, Copy)]
@@ -91,4 +93,65 @@ fn mask<C: BlockCipher>(cipher: &C, mode: Mode, from: Counters, i: u64, pad: &mu
             let _ = cipher.encipher(pad);
         }
     }
+}
+
+/// Enciphers block `i` in place. The pad holds what feedback enciphers for it, and then for the next.
+pub(crate) fn encipher_one<C: BlockCipher>(
+    cipher: &C,
+    mode: Mode,
+    from: Counters,
+    i: u64,
+    pad: &mut [u8],
+    block: &mut [u8],
+)
+    requires size { ⌜ length (now pad) ≡ C·BlockCipher .map (now cipher) .size ⌝ }
+    requires fits { ⌜ Fits mode (length (now pad)) (length (now block)) ⌝ }
+    ensures block { λ _. ⌜ now (block .exit) ≡ cipherStep mode (C·BlockCipher .map (now (cipher .entry))) (from .third) (from .fourth) i (now (pad .entry)) (now (block .entry)) ⌝ }
+    ensures pad { λ _. ⌜ Kept mode (length (now (pad .entry))) (now (block .exit)) (now (pad .exit)) ⌝ }
+{
+    if let Mode::Codebook = mode {
+        let _ = cipher.encipher(block);
+        return;
+    }
+    mask(cipher, mode, from, i, pad);
+    xor_into(block, pad);
+    if block.len() == pad.len() {
+        pad.copy_from_slice(block);
+    }
+}
+
+/// Deciphers block `i` in place. The pad holds what feedback enciphers for it.
+pub(crate) fn decipher_one<C: BlockCipher>(
+    cipher: &C,
+    mode: Mode,
+    from: Counters,
+    i: u64,
+    pad: &mut [u8],
+    block: &mut [u8],
+)
+    requires size { ⌜ length (now pad) ≡ C·BlockCipher .map (now cipher) .size ⌝ }
+    requires fits { ⌜ Fits mode (length (now pad)) (length (now block)) ⌝ }
+    ensures { λ _. ⌜ now (block .exit) ≡ plainStep mode (C·BlockCipher .map (now (cipher .entry))) (from .third) (from .fourth) i (now (pad .entry)) (now (block .entry)) ⌝ }
+{
+    if let Mode::Codebook = mode {
+        let _ = cipher.decipher(block);
+        return;
+    }
+    mask(cipher, mode, from, i, pad);
+    xor_into(block, pad);
+}
+
+/// Y and Z of counter mode from the sync in the pad; the other modes have none.
+pub(crate) fn first_counters<C: BlockCipher>(cipher: &C, mode: Mode, pad: &mut [u8]) -> Counters
+    requires size { ⌜ length (now pad) ≡ C·BlockCipher .map (now cipher) .size ⌝ }
+    requires eight { ⌜ (mode ≡ Mode.Counter → length (now pad) ≡ 8) ⌝ }
+    requires bytes { ⌜ Block (length (now pad)) (now pad) ⌝ ∗ ⌜ Lawful (C·BlockCipher .map (now cipher)) ⌝ }
+    ensures counters { λ r. ⌜ FromSync mode (C·BlockCipher .map (now (cipher .entry)) .enciphered (now (pad .entry))) (r .third) (r .fourth) ⌝ }
+    ensures pad { λ _. ⌜ (mode ≡ Mode.Feedback → now (pad .exit) ≡ now (pad .entry)) ⌝ }
+{
+    if let Mode::Counter = mode {
+        let _ = cipher.encipher(pad);
+        return read_counters(pad);
+    }
+    Counters { third: 0, fourth: 0 }
 }
