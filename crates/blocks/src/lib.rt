@@ -11,7 +11,8 @@
 ghost use mathlib.Core.Path.{_≡_};
 ghost use denote.Ref.{now};
 ghost use Rattle.refusals.specs.Codes.{outcome};
-ghost use Rattle.blocks.specs.Bytes.{xored};
+ghost use lib.ListN.{length};
+ghost use Rattle.blocks.specs.Bytes.{Bytes, xored};
 ghost use Rattle.blocks.specs.Ciphers.{BlockMap, Lawful, lengthAnswer, replaced};
 use refusals::Refusal;
 
@@ -42,4 +43,15 @@ pub fn xor_into(block: &mut [u8], with: &[u8])
     for i in 0..block.len().min(with.len()) {
         block[i] ^= with[i];
     }
+}
+
+/// The length of some bytes. With it comes that each of them is below 256.
+pub fn byte_count(bytes: &[u8]) -> usize
+    ensures value { λ r. ⌜ r ≡ length (now (bytes .entry)) ⌝ }
+    ensures bytes { λ _. ⌜ Bytes (now (bytes .entry)) ⌝ }
+{
+    if bytes.is_empty() {
+        return 0;
+    }
+    bytes.len()
 }

@@ -3,11 +3,11 @@ use mathlib.Core.Path.{_≡_, refl, sym, ap, ap₂, subst, _∙_}
 use mathlib.Core.List.{List, [], _∷_, _++_}
 use mathlib.Core.Logic.{_⊎_, inl, inr, ⊎-elim}
 use Prim.Native.Nat.{ℕ, zero, suc, min, _+_, _-_, _*_, _/_, _%_, _<_, _≤_}
-use native.Mathlib.Nat.{mul-add, mul-suc, mul-zero, mul-one, mul-comm, mul-le-mul-left}
+use native.Mathlib.Nat.{mul-add, mul-suc, mul-zero, mul-one, mul-comm, add-mul, one-mul, mul-le-mul-left}
 use native.Mathlib.Omega.{arith}
 use lib.ListN.{length, take, drop}
 use lib.Seq.{take-add}
-use Rattle.std.proofs.shelf.Bits.{div-add-mod', mod-below}
+use Rattle.std.proofs.shelf.Bits.{div-add-mod', mod-below, div-mul-add, le-div}
 use Rattle.std.proofs.shelf.Elements.{all-append, all-take, all-drop}
 use Rattle.std.proofs.shelf.Lists.{append-nil, append-assoc, drop-drop, drop-at, take-at, take-all, length-append, length-take, length-drop}
 use Rattle.std.proofs.shelf.Tests.{cases-eq, cases-lt}
@@ -24,6 +24,24 @@ pub count-tight : (n bytes : ℕ) → 0 < n → n * blockCount n bytes < bytes +
 count-tight n bytes h =
     let x : ℕ = bytes + n - 1 in
     omega (arith, div-add-mod' x n, mul-comm n (x / n))
+
+-- whole blocks, and what is left
+pub count-whole : (n bytes : ℕ) → 0 < n → bytes % n ≡ 0 → blockCount n bytes ≡ bytes / n
+count-whole n bytes h e =
+    let q : ℕ = bytes / n in
+    let x : bytes + n - 1 ≡ q * n + (n - 1) = omega (arith, div-add-mod' bytes n) in
+    ap (λ (k : ℕ). k / n) x ∙ div-mul-add q n (n - 1) (omega arith)
+
+pub count-rest : (n bytes : ℕ) → 0 < n → (bytes % n ≡ 0 → ⊥) → blockCount n bytes ≡ bytes / n + 1
+count-rest n bytes h e =
+    let q : ℕ = bytes / n in
+    let r : ℕ = bytes % n in
+    let x : bytes + n - 1 ≡ (q + 1) * n + (r - 1) = omega (arith, div-add-mod' bytes n, add-mul q 1 n, one-mul n) in
+    ap (λ (k : ℕ). k / n) x ∙ div-mul-add (q + 1) n (r - 1) (omega (arith, mod-below bytes n h))
+
+-- so many whole blocks are among them
+pub count-above : (n bytes i : ℕ) → 0 < n → n * i ≤ bytes → i ≤ blockCount n bytes
+count-above n bytes i h l = le-div i (bytes + n - 1) n h (omega (arith, mul-comm i n))
 
 pub length-block : (n i : ℕ) (text : List ℕ) → length (block n i text) ≡ min n (length text - n * i)
 length-block n i text = simp (length-take, length-drop) refl

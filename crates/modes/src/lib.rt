@@ -7,6 +7,7 @@
 
 mod masks;
 pub mod mode;
+pub mod text;
 
 ghost use Rattle.modes.specs.Calls.{bufferAfter};
 ghost use Rattle.modes.specs.Laws.{Undo, Reaches, StraightIsStepped};
