@@ -4,3 +4,4 @@ pub mod Reaching
 pub mod Stepping
 pub mod Texts
 pub mod Judged
+pub mod Plain

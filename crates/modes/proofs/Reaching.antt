@@ -42,7 +42,7 @@ same-bits got mask plain sent l e =
     }
 
 module _ (w : Chaining) (bytes : ℕ) (s : Sound w bytes) (image : List ℕ) (im : Text bytes image) (got : ℕ → List ℕ) (i : ℕ) (low : i < blockCount (size w) bytes)
-  (fits : (k : ℕ) → Depends (w .mode) i k → InPlace (got k) (cipherBlock w image k)) where
+    (fits : (k : ℕ) → Depends (w .mode) i k → InPlace (got k) (cipherBlock w image k)) where
   abbrev plain : List ℕ
   plain = block (size w) i image
 

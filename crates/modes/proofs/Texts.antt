@@ -134,8 +134,8 @@ pub front-room : (n i bytes : ℕ) → i ≡ bytes / n → n * i ≤ bytes
 front-room n i bytes e = omega (arith, div-add-mod' bytes n, mul-comm n (bytes / n), ap (λ (j : ℕ). n * j) e)
 
 module _ (w : Chaining) (image : List ℕ) (bytes : Bytes image) (s : Sound w (length image)) (n : ℕ) (sized : size w ≡ n)
-  (i y z : ℕ) (xs pad out : List ℕ) (h : n * i ≤ length image) (from : FromSync (w .mode) (w .cipher .enciphered (w .sync)) y z)
-  (inv : xs ≡ joined (cipherBlock w image) 0 i ++ drop (n * i) image) (padded : Padded (w .mode) (w .cipher) (w .sync) image i pad) where
+    (i y z : ℕ) (xs pad out : List ℕ) (h : n * i ≤ length image) (from : FromSync (w .mode) (w .cipher .enciphered (w .sync)) y z)
+    (inv : xs ≡ joined (cipherBlock w image) 0 i ++ drop (n * i) image) (padded : Padded (w .mode) (w .cipher) (w .sync) image i pad) where
   at : size w * i ≤ length image
   at = subst (λ (m : ℕ). m * i ≤ length image) (sym sized) h
 

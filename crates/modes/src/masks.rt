@@ -2,11 +2,11 @@
 
 ghost use mathlib.Core.Path.{_≡_};
 ghost use mathlib.Core.Logic.{_⊎_};
-ghost use Prim.Native.Nat.{ℕ, _≤_};
+ghost use Prim.Native.Nat.{ℕ, suc, _≤_};
 ghost use lib.ListN.{length, take, drop};
 ghost use Rattle.blocks.specs.Bytes.{word, Block};
 ghost use Rattle.blocks.specs.Ciphers.{Lawful};
-ghost use Rattle.modes.specs.Counters.{third, fourth, countersFrom};
+ghost use Rattle.modes.specs.Counters.{third, fourth, thirdStep, fourthStep, steps, countersFrom};
 ghost use Rattle.modes.specs.Steps.{maskBy, cipherStep, plainStep, Fits, Kept, FromSync};
 ghost use Rattle.modes.specs.Calls.{syncBytes};
 use crate::mode::Mode;
@@ -16,25 +16,25 @@ use blocks::xor_into;
 
 /// Y and Z, from which the counters of each block come.
 #[derive(Clone, Copy)]
-pub(crate) struct Counters {
-    pub(crate) third: u32,
-    pub(crate) fourth: u32,
+pub struct Counters {
+    pub third: u32,
+    pub fourth: u32,
 }
 
-/// N3 of block `i`.
-fn third(y: u32, i: u64) -> u32
-    ensures { λ r. ⌜ r ≡ third y i ⌝ }
-{
-    let n = u128::from(y) + (u128::from(i) + 1) * 0x0101_0101;
-    (n % 0x1_0000_0000) as u32
-}
-
-/// N4 of block `i`, by one remainder.
-fn fourth(z: u32, i: u64) -> u32
-    ensures { λ r. ⌜ r ≡ fourth z i ⌝ }
-{
-    let n = u128::from(z) + (u128::from(i) + 1) * 0x0101_0104;
-    ((n - 1) % 0xffff_ffff) as u32 + 1
+impl Counters {
+    /// N3 and N4 of block `i`, straight from Y, Z and `i`: what `i` + 1 steps give. N4 is one remainder.
+    pub fn of_block(self, i: u64) -> Counters
+        ensures third { λ r. ⌜ r .third ≡ third (self .third) i ⌝ }
+        ensures fourth { λ r. ⌜ r .fourth ≡ fourth (self .fourth) i ⌝ }
+        ensures stepped { λ r. ⌜ (r .third ≡ steps thirdStep (suc i) (self .third)) × (r .fourth ≡ steps fourthStep (suc i) (self .fourth)) ⌝ }
+    {
+        let third = u128::from(self.third) + (u128::from(i) + 1) * 0x0101_0101;
+        let fourth = u128::from(self.fourth) + (u128::from(i) + 1) * 0x0101_0104;
+        Counters {
+            third: (third % 0x1_0000_0000) as u32,
+            fourth: ((fourth - 1) % 0xffff_ffff) as u32 + 1,
+        }
+    }
 }
 
 /// The counters of block `i` as a block of eight bytes.
@@ -42,8 +42,9 @@ fn write_counters(from: Counters, i: u64, pad: &mut [u8])
     requires { ⌜ length (now pad) ≡ 8 ⌝ }
     ensures { λ _. ⌜ now (pad .exit) ≡ countersFrom (from .third) (from .fourth) i ⌝ }
 {
-    let [a, b, c, d] = third(from.third, i).to_le_bytes();
-    let [e, f, g, h] = fourth(from.fourth, i).to_le_bytes();
+    let at = from.of_block(i);
+    let [a, b, c, d] = at.third.to_le_bytes();
+    let [e, f, g, h] = at.fourth.to_le_bytes();
     pad.copy_from_slice(&[a, b, c, d, e, f, g, h]);
 }
 
@@ -153,5 +154,8 @@ pub(crate) fn first_counters<C: BlockCipher>(cipher: &C, mode: Mode, pad: &mut [
         let _ = cipher.encipher(pad);
         return read_counters(pad);
     }
-    Counters { third: 0, fourth: 0 }
+    Counters {
+        third: 0,
+        fourth: 0,
+    }
 }

@@ -61,7 +61,14 @@ fn encipher_blocks<C: BlockCipher>(cipher: &C, mode: Mode, pad: &mut [u8], text:
         encipher_one(cipher, mode, from, i as u64, pad, &mut text[at..at + n]);
     }
     if text.len() % n != 0 {
-        encipher_one(cipher, mode, from, whole as u64, pad, &mut text[n * whole..]);
+        encipher_one(
+            cipher,
+            mode,
+            from,
+            whole as u64,
+            pad,
+            &mut text[n * whole..],
+        );
     }
 }
 

@@ -2,10 +2,10 @@
 
 #[cfg(test)]
 mod tests {
+    use std::test::*;
     use support::report::Report;
     use support::report_on;
     use support::shown::ReportDisplay;
-    use std::test::*;
 
     const TARGET: &[u8] = b"kind flash\npage 16\npages 4\nfill 255
 box 1 0 0 0 0 0 0 0 0 0 0 0 0 0 0 0 0
@@ -20,7 +20,14 @@ box 8 0 0 0 0 0 0 0 0 0 0 0 0 0 0 0 0
 
     const IMAGE: [u8; 9] = [1, 2, 3, 4, 5, 6, 7, 8, 0x11];
 
-    fn refused(text: &[u8], keys: &[u8], image: &[u8], number: u8, place: u32, layer: u8) -> Result<(), Fail> {
+    fn refused(
+        text: &[u8],
+        keys: &[u8],
+        image: &[u8],
+        number: u8,
+        place: u32,
+        layer: u8,
+    ) -> Result<(), Fail> {
         match report_on(text, keys, image) {
             Ok(_) => Err(Fail::new("accepted")),
             Err(why) => {
@@ -93,7 +100,9 @@ box 8 0 0 0 0 0 0 0 0 0 0 0 0 0 0 0 0
     fn a_report_is_printed(rt: LibcRuntime) -> Result<(), Fail> {
         let report = accepted(&IMAGE)?;
         let text = format!(rt.alloc(), "{report}")?;
-        check(text.as_str() == "kind flash
+        check(
+            text.as_str()
+                == "kind flash
 page length 16
 pages 4
 fill 255
@@ -102,6 +111,7 @@ image length 9
 image pages 1
 imitovstavka, l = 32: 0x04030210
 WRONG READING, fill of the last page taken in: 0xfbfcfd10
-another l: shift right by 32 - l, for l = 16: 0x0403")
+another l: shift right by 32 - l, for l = 16: 0x0403",
+        )
     }
 }

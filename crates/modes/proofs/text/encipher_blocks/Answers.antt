@@ -17,12 +17,12 @@ loop-i-again g c =
     let fits = room (length (c .args .pad .now)) (c .loop-i .i) (length image) (c .loop-i-test .taken) in (
       c .encipher-one .kept .pad ∙ c .loop-i .inv .0,
       (λ sync b.
-        let w : Chaining = record { cipher = map; mode = c .args .mode; sync = sync } in
-        let inv = c .loop-i .inv .1 sync b in
-        turn w image (c .pre .bytes) (sound w (length image) (c .pre .lawful) (b .start) (c .pre .eight) (c .pre .whole)) (length (c .args .pad .now)) sized
-        (c .loop-i .i) (c .first-counters-from .result .third) (c .first-counters-from .result .fourth) (c .loop-i .text) (c .loop-i .pad) (c .encipher-one .last .block)
-        (omega arith) (b .from) (inv .0) (inv .1) (c .encipher-one .last .pad) fits (c .encipher-one .ensures .block)
-        (subst (λ (m : ℕ). Kept (c .args .mode) m (c .encipher-one .last .block) (c .encipher-one .last .pad)) (c .loop-i .inv .0) (c .encipher-one .ensures .pad))),
+          let w : Chaining = record { cipher = map; mode = c .args .mode; sync = sync } in
+          let inv = c .loop-i .inv .1 sync b in
+          turn w image (c .pre .bytes) (sound w (length image) (c .pre .lawful) (b .start) (c .pre .eight) (c .pre .whole)) (length (c .args .pad .now)) sized
+          (c .loop-i .i) (c .first-counters-from .result .third) (c .first-counters-from .result .fourth) (c .loop-i .text) (c .loop-i .pad) (c .encipher-one .last .block)
+          (omega arith) (b .from) (inv .0) (inv .1) (c .encipher-one .last .pad) fits (c .encipher-one .ensures .block)
+          (subst (λ (m : ℕ). Kept (c .args .mode) m (c .encipher-one .last .block) (c .encipher-one .last .pad)) (c .loop-i .inv .0) (c .encipher-one .ensures .pad))),
     )
 
 pub returns-then-text-n-ne0 : need.returns-then-text-n-ne0
