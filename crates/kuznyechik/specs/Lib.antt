@@ -1,0 +1,3 @@
+pub mod Pi
+pub mod Field
+pub mod Steps

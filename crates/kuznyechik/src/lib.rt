@@ -1,0 +1,7 @@
+//! Kuznyechik, the block cipher of GOST R 34.12-2015 with blocks of 128 bits.
+//!
+//! Open results: none.
+
+mod field;
+mod steps;
+mod table;
