@@ -1,3 +1,5 @@
 pub mod Entries
 pub mod Products
 pub mod Turns
+pub mod Undoing
+pub mod Rounds

@@ -1,3 +1,5 @@
 pub mod Pi
 pub mod Field
 pub mod Steps
+pub mod Cipher
+pub mod Keyed

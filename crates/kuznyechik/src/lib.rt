@@ -2,6 +2,7 @@
 //!
 //! Open results: none.
 
+pub mod cipher;
 mod field;
 mod steps;
 mod table;
