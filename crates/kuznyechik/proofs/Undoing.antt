@@ -177,6 +177,17 @@ back [] w = record { stays = λ a b. b; back = λ a b. refl }
 back (k ∷ []) w = X-undone k (w .0)
 back (k ∷ (l ∷ ls)) w = then (deciphered (l ∷ ls)) (enciphered (l ∷ ls)) (XS⁻¹L⁻¹ k) (LSX k) (back (l ∷ ls) (w .1)) (XS⁻¹L⁻¹-undone k (w .0))
 
+-- the round keys hold bytes, place by place
+bytes-in : (bs : List ℕ) → Bytes bs → (j : ℕ) → getD bs j 0 < 256
+bytes-in [] w j = omega arith
+bytes-in (b ∷ bs) w zero = w .0
+bytes-in (b ∷ bs) w (suc j) = bytes-in bs (w .1) j
+
+pub bytes-at : (keys : List (List ℕ)) → ((i : ℕ) → i < length keys → Bytes (getD keys i [])) → OfBytes keys
+bytes-at [] w i j = omega arith
+bytes-at (k ∷ ks) w zero j = bytes-in k (w 0 (omega arith)) j
+bytes-at (k ∷ ks) w (suc i) j = bytes-at ks (λ n h. w (suc n) (omega arith)) i j
+
 module _ (keys : List (List ℕ)) (small : OfBytes keys) where
   all-bytes : All Bytes keys
   all-bytes = all-from-getD Bytes keys [] (λ i h. bytes-from (getD keys i []) (small i))

@@ -46,10 +46,12 @@ fn decipher_block(keys: &[[u8; 16]; 10], block: &mut [u8])
     }
 }
 
-/// Does nothing: what it ensures is known of every part of bytes.
-fn hold_bytes(part: &[u8])
-    ensures { λ _. ⌜ Bytes (now (part .entry)) ⌝ }
+/// Reads a byte for what it teaches the proof: a block holds bytes.
+fn hold_bytes(block: &[u8])
+    requires { ⌜ length (now block) ≡ 16 ⌝ }
+    ensures { λ _. ⌜ Bytes (now (block .entry)) ⌝ }
 {
+    let _first = block[0];
 }
 
 fn wrong_length() -> Refusal
@@ -84,6 +86,7 @@ pub impl BlockCipher for Kuznyechik<'_> as KuznyechikCipher {
         if block.len() != 16 {
             return Err(wrong_length());
         }
+        hold_bytes(block);
         encipher_block(self.keys, block);
         Ok(())
     }
@@ -96,6 +99,7 @@ pub impl BlockCipher for Kuznyechik<'_> as KuznyechikCipher {
         if block.len() != 16 {
             return Err(wrong_length());
         }
+        hold_bytes(block);
         decipher_block(self.keys, block);
         Ok(())
     }

@@ -1,7 +1,4 @@
-use mathlib.Core.Path.{_≡_, refl}
-use native.Mathlib.Omega.{arith}
 use Rattle.blocks.proofs.Lengths.{turned}
-use Rattle.blocks.proofs.Words.{bytes-from}
 use Rattle.kuznyechik.specs.Cipher.{enciphered, deciphered}
 use Rattle.kuznyechik.proofs.Undoing.{enciphered-undone}
 use Rattle.kuznyechik.proofs.cipher.KuznyechikCipher.encipher.Needs as need
@@ -11,5 +8,7 @@ returns c =
     let keys = c .args .self .now .keys .now in
     let block = c .args .block .now in
     let long = c .if-block-ne16 .left in
-    let w = bytes-from block (λ i. omega (arith, c .typed .block i)) in
-    ?
+    let law = enciphered-undone keys (c .args .self .now .bytes) in
+    let t = turned 16 (enciphered keys) (deciphered keys) block (c .encipher-block .last .block) long
+    (law .stays block (long, c .hold-bytes .ensures) .0) (law .back block (long, c .hold-bytes .ensures)) (c .encipher-block .ensures) in
+    record { answer = t .0; block = t .1; undone = t .2 }
