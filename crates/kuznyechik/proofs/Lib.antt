@@ -3,3 +3,4 @@ pub mod Products
 pub mod Turns
 pub mod Undoing
 pub mod Rounds
+pub mod Pairs

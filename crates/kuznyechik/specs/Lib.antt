@@ -1,5 +1,6 @@
 pub mod Pi
 pub mod Field
 pub mod Steps
+pub mod Keys
 pub mod Cipher
 pub mod Keyed

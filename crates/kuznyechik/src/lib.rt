@@ -4,5 +4,6 @@
 
 pub mod cipher;
 mod field;
+pub mod key;
 mod steps;
 mod table;
