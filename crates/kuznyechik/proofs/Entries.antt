@@ -22,25 +22,25 @@ passed test (suc n) h k l =
     let parts = and-parts (test n) (passes test n) h in
     elim (cases-lt k n) [ inl below ↦ passed test n (parts .1) k below | inr above ↦ let e : k ≡ n = omega arith in rw e (parts .0) ]
 
--- a table in rows of sixteen
+-- a table in rows of eight
 abbrev pub rows : ℕ → List ℕ → List (List ℕ)
 rows zero xs = []
-rows (suc n) xs = take 16 xs ∷ rows n (drop 16 xs)
+rows (suc n) xs = take 8 xs ∷ rows n (drop 8 xs)
 
 -- each table holds bytes, is what its rows hold, and undoes the other
 abbrev test : List ℕ → List ℕ → ℕ → Bool
 test xs ys b =
-    ltb (getD xs b 0) 256 && (eqb (getD ys (getD xs b 0) 0) b && eqb (getD (getD (rows 16 xs) (b / 16) []) (b % 16) 0) (getD xs b 0))
+    ltb (getD xs b 0) 256 && (eqb (getD ys (getD xs b 0) 0) b && eqb (getD (getD (rows 32 xs) (b / 8) []) (b % 8) 0) (getD xs b 0))
 
 pub record Entry (xs ys : List ℕ) (b : ℕ) : Type 0 where
   pub byte : getD xs b 0 < 256
   pub back : getD ys (getD xs b 0) 0 ≡ b
-  pub in-rows : getD (getD (rows 16 xs) (b / 16) []) (b % 16) 0 ≡ getD xs b 0
+  pub in-rows : getD (getD (rows 32 xs) (b / 8) []) (b % 8) 0 ≡ getD xs b 0
 
 entry : (xs ys : List ℕ) (b : ℕ) → test xs ys b ≡ true → Entry xs ys b
 entry xs ys b h =
     let x = getD xs b 0 in
-    let r = getD (getD (rows 16 xs) (b / 16) []) (b % 16) 0 in
+    let r = getD (getD (rows 32 xs) (b / 8) []) (b % 8) 0 in
     let first = and-parts (ltb x 256) (eqb (getD ys x 0) b && eqb r x) h in
     let rest = and-parts (eqb (getD ys x 0) b) (eqb r x) (first .1) in
     record { byte = ltb-true x 256 (first .0); back = eqb-true (getD ys x 0) b (rest .0); in-rows = eqb-true r x (rest .1) }

@@ -8,24 +8,24 @@ use crate::table::put_back;
 use crate::table::replace;
 use blocks::xor_into;
 
-/// The factors of a15, a14, .. a0.
+/// The factor of each byte in l.
 const FACTORS: [u8; 16] = [
-    148,
-    32,
-    133,
-    16,
-    194,
-    192,
-    1,
-    251,
-    1,
-    192,
-    194,
-    16,
-    133,
-    32,
-    148,
-    1,
+    148, // a15
+    32, // a14
+    133, // a13
+    16, // a12
+    194, // a11
+    192, // a10
+    1, // a9
+    251, // a8
+    1, // a7
+    192, // a6
+    194, // a5
+    16, // a4
+    133, // a3
+    32, // a2
+    148, // a1
+    1, // a0
 ];
 
 /// S: each byte through Pi'.

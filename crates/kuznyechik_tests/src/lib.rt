@@ -10,10 +10,12 @@ mod tests {
     use refusals::RefusalDebug;
     use std::test::*;
 
-    // The example key of the standard, in its two halves, and its example block.
-    const K1: [u8; 16] = *b"\x88\x99\xaa\xbb\xcc\xdd\xee\xff\x00\x11\x22\x33\x44\x55\x66\x77";
-    const K2: [u8; 16] = *b"\xfe\xdc\xba\x98\x76\x54\x32\x10\x01\x23\x45\x67\x89\xab\xcd\xef";
+    // The example key of the standard, its example block, and what that is enciphered to.
+    const KEY: [u8; 32] = *b"\x88\x99\xaa\xbb\xcc\xdd\xee\xff\x00\x11\x22\x33\x44\x55\x66\x77\
+        \xfe\xdc\xba\x98\x76\x54\x32\x10\x01\x23\x45\x67\x89\xab\xcd\xef";
+
     const PLAIN: [u8; 16] = *b"\x11\x22\x33\x44\x55\x66\x77\x00\xff\xee\xdd\xcc\xbb\xaa\x99\x88";
+
     const CIPHER: [u8; 16] = *b"\x7f\x67\x9d\x90\xbe\xbc\x24\x30\x5a\x46\x8d\x42\xb9\xd4\xed\xcd";
 
     // Sees that a call was refused so.
@@ -25,11 +27,8 @@ mod tests {
 
     #[test]
     fn the_example_there_and_back() -> Result<(), Fail> {
-        let mut key = [0; 32];
-        key[0..16].copy_from_slice(&K1);
-        key[16..32].copy_from_slice(&K2);
         let mut keys = [[0; 16]; 10];
-        spread_key(&key, &mut keys)?;
+        spread_key(&KEY, &mut keys)?;
         let cipher = Kuznyechik::new(&keys);
         check_eq(cipher.block_length(), 16)?;
         let mut block = PLAIN;

@@ -10,20 +10,19 @@ use kuznyechik::cipher::KuznyechikCipher;
 use kuznyechik::key::spread_key;
 use refusals::Refusal;
 
+const KEY: [u8; 32] = *b"\x88\x99\xaa\xbb\xcc\xdd\xee\xff\x00\x11\x22\x33\x44\x55\x66\x77\
+    \xfe\xdc\xba\x98\x76\x54\x32\x10\x01\x23\x45\x67\x89\xab\xcd\xef";
+
+const PLAIN: [u8; 16] = *b"\x11\x22\x33\x44\x55\x66\x77\x00\xff\xee\xdd\xcc\xbb\xaa\x99\x88";
+
 /// The examples hold of the definitions; and the code enciphers the example block.
 pub fn kuznyechik_values() -> Result<[u8; 16], Refusal>
     ensures values { λ _. ⌜ KuznyechikValues ⌝ }
     ensures block { λ r. ⌜ answer (λ b. b) r ≡ Ok cipher ⌝ }
 {
-    let key = [
-        0x88, 0x99, 0xaa, 0xbb, 0xcc, 0xdd, 0xee, 0xff, 0x00, 0x11, 0x22, 0x33, 0x44, 0x55, 0x66, 0x77,
-        0xfe, 0xdc, 0xba, 0x98, 0x76, 0x54, 0x32, 0x10, 0x01, 0x23, 0x45, 0x67, 0x89, 0xab, 0xcd, 0xef,
-    ];
     let mut keys = [[0; 16]; 10];
-    spread_key(&key, &mut keys)?;
-    let mut block = [
-        0x11, 0x22, 0x33, 0x44, 0x55, 0x66, 0x77, 0x00, 0xff, 0xee, 0xdd, 0xcc, 0xbb, 0xaa, 0x99, 0x88,
-    ];
+    spread_key(&KEY, &mut keys)?;
+    let mut block = PLAIN;
     Kuznyechik::new(&keys).encipher(&mut block)?;
     Ok(block)
 }

@@ -44,5 +44,6 @@ worked = (substitutions, shifts, mixes, constants, keys, ap (λ (ks : List (List
 pub returns : need.returns
 returns c =
     let spread : c .new .result .keys .now ≡ exampleKeys = c .new .ensures ∙ (c .spread-key .ensures .keys ∙ keys) in
-    let made = c .encipher .ensures .block ∙ (ap (λ (ks : List (List ℕ)). enciphered ks plain) spread ∙ there) in
-    record { values = worked; block = ap (λ (b : List ℕ). Ok b) made }
+    let with : List (List ℕ) → List ℕ = λ ks. enciphered ks plain in
+    let made : c .encipher .last .block ≡ with (c .new .result .keys .now) = c .encipher .ensures .block in
+    record { values = worked; block = ap (λ (b : List ℕ). Ok b) (made ∙ (ap with spread ∙ there)) }
