@@ -3,4 +3,3 @@ pub mod Field
 pub mod Steps
 pub mod Keys
 pub mod Cipher
-pub mod Keyed
