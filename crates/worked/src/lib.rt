@@ -1,5 +1,6 @@
 //! The worked values of the ciphers and of the imitovstavka, as one theorem by computation of the
-//! definitions that the contracts use (specs/Values.antt).
+//! definitions that the contracts use (specs/Values.antt and
+//! specs/Kuznyechik.antt).
 //!
 //! Open results: none.
 
@@ -11,6 +12,8 @@ use gost::table::SubstitutionTable;
 use imitovstavka::imitovstavka;
 use imitovstavka::length::TagLength;
 use refusals::Refusal;
+
+pub mod kuznyechik_values;
 
 /// The worked values hold of the definitions; and the code gives that of the nine-byte image.
 pub fn worked_values() -> Result<u32, Refusal>
