@@ -6,7 +6,10 @@ use lib.ListN.{replicate}
 use Rattle.gost.specs.declared.rounds.Registers.{Registers}
 use Rattle.gost.specs.Tables.{Rows}
 use Rattle.gost.specs.Rounds.{round}
-use Rattle.gost.specs.Cipher.{enciphered}
+use Rattle.gost.specs.Cipher.{enciphered, gost}
+use Rattle.modes.specs.declared.mode.Mode.the-variants.{Feedback}
+use Rattle.modes.specs.Counters.{thirdStep, fourthStep}
+use Rattle.modes.specs.Modes.{gamma, enciphered as body}
 use Rattle.imitovstavka.specs.Chain.{imitovstavka}
 
 -- a table whose rows leave each number as it is, and one of zeros
@@ -18,6 +21,9 @@ zeros = replicate 8 (replicate 16 0)
 
 abbrev pub zeroKey : List ℕ
 zeroKey = replicate 8 0
+
+abbrev pub zeroSync : List ℕ
+zeroSync = replicate 8 0
 
 abbrev pub both : ℕ → ℕ → Registers
 both n1 n2 = record { n1 = n1; n2 = n2 }
@@ -40,6 +46,21 @@ Rounds =
 abbrev pub Enciphering : Type 0
 Enciphering = enciphered zeros zeroKey (1 ∷ 2 ∷ 3 ∷ 4 ∷ 5 ∷ 6 ∷ 7 ∷ 8 ∷ []) ≡ 5 ∷ 6 ∷ 7 ∷ 8 ∷ 1 ∷ 2 ∷ 3 ∷ 4 ∷ []
 
+-- steps of the counters, and the first two gammas with zeros for table, key and sync
+abbrev pub CounterMode : Type 0
+CounterMode =
+    (fourthStep 0xFEFEFEFB ≡ 0xFFFFFFFF)
+    × (fourthStep 0xFEFEFEFC ≡ 1)
+    × (thirdStep 0xFEFEFEFF ≡ 0)
+    × (gamma (enciphered zeros zeroKey) zeroSync 0 ≡ 4 ∷ replicate 7 1)
+    × (gamma (enciphered zeros zeroKey) zeroSync 1 ≡ 8 ∷ replicate 7 2)
+
+-- the image of nine bytes in feedback, with zeros for table, key and sync
+abbrev pub FeedbackMode : Type 0
+FeedbackMode =
+    body (record { cipher = gost zeros zeroKey; mode = Feedback; sync = zeroSync }) nine
+    ≡ 0x01 ∷ 0x02 ∷ 0x03 ∷ 0x04 ∷ 0x05 ∷ 0x06 ∷ 0x07 ∷ 0x08 ∷ 0x14 ∷ []
+
 -- with zeros for table and key: two whole blocks at 32 and 16 bits, the image of nine bytes, and the
 -- wrong reading of that image on a page of 16 bytes with fill 255
 abbrev pub Imitovstavki : Type 0
@@ -50,4 +71,4 @@ Imitovstavki =
     × (imitovstavka zeros zeroKey 32 (nine ++ replicate 7 255) ≡ 0xFBFCFD10)
 
 abbrev pub WorkedValues : Type 0
-WorkedValues = Rounds × Enciphering × Imitovstavki
+WorkedValues = Rounds × Enciphering × CounterMode × FeedbackMode × Imitovstavki
