@@ -1,10 +1,10 @@
 -- Round keys written pair by pair.
-use mathlib.Core.Path.{_≡_, refl, sym, _∙_, ap}
+use mathlib.Core.Path.{_≡_, sym, _∙_, ap}
 use mathlib.Core.List.{List, [], _∷_, _++_}
-use Prim.Native.Nat.{ℕ, zero, suc, _+_, _-_, _*_, _<_, _≤_}
+use Prim.Native.Nat.{ℕ, suc, _+_, _-_, _*_, _<_}
 use native.Mathlib.Omega.{arith}
 use lib.ListN.{length, set, take, drop}
-use Rattle.std.proofs.shelf.Lists.{take-more-set, take-all, take-rest, length-set, append-assoc, append-nil}
+use Rattle.std.proofs.shelf.Lists.{take-more-set, take-all, length-set, append-assoc, append-nil}
 use Rattle.kuznyechik.specs.Keys.{Pair, steps, pairs, roundKeys}
 
 -- the pair with number i, put after those before it

@@ -1,5 +1,5 @@
 use mathlib.Core.Path.{_≡_, sym, _∙_}
-use Prim.Native.Nat.{ℕ, _+_, _-_}
+use Prim.Native.Nat.{_+_, _-_}
 use native.Mathlib.Omega.{arith}
 use lib.Bits.{xor-zero-l, xor-zero-r}
 use Rattle.kuznyechik.specs.Field.{bitsTimes, product}

@@ -1,4 +1,4 @@
-use mathlib.Core.Path.{_≡_, _∙_}
+use mathlib.Core.Path.{_∙_}
 use native.Mathlib.Omega.{arith}
 use Rattle.kuznyechik.specs.Pi.{pi⁻¹}
 use Rattle.kuznyechik.specs.Steps.{S⁻¹}

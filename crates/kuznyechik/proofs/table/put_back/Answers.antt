@@ -1,4 +1,3 @@
-use mathlib.Core.Path.{_≡_}
 use native.Mathlib.Omega.{arith}
 use Rattle.kuznyechik.specs.Pi.{pi⁻¹}
 use Rattle.kuznyechik.proofs.Entries.{put-back}
