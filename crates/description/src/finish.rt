@@ -13,7 +13,7 @@ use refusals::Reason;
 use refusals::Refusal;
 
 /// A refusal by this layer.
-pub fn refusal(reason: Reason, place: u32) -> Refusal
+pub(crate) fn refusal(reason: Reason, place: u32) -> Refusal
     ensures { λ r. ⌜ codeOf r ≡ refused reason place ⌝ }
 {
     Refusal {
@@ -43,7 +43,7 @@ fn all_given(rows: &[bool; 8]) -> bool
 }
 
 /// The description that the lines have given, or the lowest part that is missing.
-pub fn finish(draft: &Draft) -> Result<Description, Refusal>
+pub(crate) fn finish(draft: &Draft) -> Result<Description, Refusal>
     ensures { λ r. ⌜ answer meaningOf r ≡ completed (partsOf (now (draft .entry))) ⌝ }
 {
     let Some(kind) = draft.kind else {

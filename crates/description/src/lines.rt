@@ -29,7 +29,7 @@ fn allowed_count(n: u32) -> bool
 
 impl Draft {
     /// The draft before the first line.
-    pub fn new() -> Draft
+    pub(crate) fn new() -> Draft
         ensures { λ r. ⌜ partsOf r ≡ blank ⌝ }
     {
         Draft {
@@ -45,7 +45,7 @@ impl Draft {
     }
 
     /// A line that gives the kind.
-    pub fn kind_line(&mut self, kind: Option<TargetKind>) -> Result<(), Reason>
+    pub(crate) fn kind_line(&mut self, kind: Option<TargetKind>) -> Result<(), Reason>
         ensures { λ r. ⌜ taken r (partsOf (now (self .exit))) ≡ kindLine (partsOf (now (self .entry))) kind ⌝ }
     {
         let Some(kind) = kind else {
@@ -59,7 +59,7 @@ impl Draft {
     }
 
     /// A line that gives the page length.
-    pub fn page_line(&mut self, n: Option<u32>) -> Result<(), Reason>
+    pub(crate) fn page_line(&mut self, n: Option<u32>) -> Result<(), Reason>
         ensures { λ r. ⌜ taken r (partsOf (now (self .exit))) ≡ pageLine (partsOf (now (self .entry))) n ⌝ }
     {
         let Some(n) = n else {
@@ -81,7 +81,7 @@ impl Draft {
     }
 
     /// A line that gives the page count.
-    pub fn pages_line(&mut self, n: Option<u32>) -> Result<(), Reason>
+    pub(crate) fn pages_line(&mut self, n: Option<u32>) -> Result<(), Reason>
         ensures { λ r. ⌜ taken r (partsOf (now (self .exit))) ≡ pagesLine (partsOf (now (self .entry))) n ⌝ }
     {
         let Some(n) = n else {
@@ -103,7 +103,7 @@ impl Draft {
     }
 
     /// A line that gives the fill byte.
-    pub fn fill_line(&mut self, n: Option<u32>) -> Result<(), Reason>
+    pub(crate) fn fill_line(&mut self, n: Option<u32>) -> Result<(), Reason>
         ensures { λ r. ⌜ taken r (partsOf (now (self .exit))) ≡ fillLine (partsOf (now (self .entry))) n ⌝ }
     {
         let Some(n) = n else {
@@ -120,7 +120,7 @@ impl Draft {
     }
 
     /// A line that locks a page.
-    pub fn lock_line(&mut self, page: Option<u32>) -> Result<(), Reason>
+    pub(crate) fn lock_line(&mut self, page: Option<u32>) -> Result<(), Reason>
         ensures { λ r. ⌜ taken r (partsOf (now (self .exit))) ≡ lockLine (partsOf (now (self .entry))) page ⌝ }
     {
         let Some(page) = page else {
@@ -141,7 +141,7 @@ impl Draft {
     }
 
     /// A line that gives a row of the substitution table.
-    pub fn box_line(&mut self, row: (u32, [u8; 16])) -> Result<(), Reason>
+    pub(crate) fn box_line(&mut self, row: (u32, [u8; 16])) -> Result<(), Reason>
         requires { ⌜ narrowRow (row .1) ≡ true ⌝ }
         ensures { λ r. ⌜ taken r (partsOf (now (self .exit))) ≡ boxLine (partsOf (now (self .entry))) (Some (row .0 ∷ row .1)) ⌝ }
     {

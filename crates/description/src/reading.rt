@@ -89,7 +89,7 @@ fn keyword_line(keyword: Keyword, scanner: &mut Scanner, draft: &mut Draft) -> R
 }
 
 /// The next line.
-pub fn read_line(scanner: &mut Scanner, draft: &mut Draft) -> Result<(), Reason>
+pub(crate) fn read_line(scanner: &mut Scanner, draft: &mut Draft) -> Result<(), Reason>
     ensures value { λ r. ⌜ taken r (partsOf (now (draft .exit))) ≡ judgedLine (partsOf (now (draft .entry))) (wordsOf (now (scanner .entry))) ⌝ }
     ensures ended { λ r. ⌜ made r (λ _. Ended (now (scanner .entry)) (now (scanner .exit))) ⌝ }
 {

@@ -11,7 +11,7 @@ use crate::words::class;
 use crate::words::word_len;
 
 impl<'a> Scanner<'a> {
-    pub fn new(text: &'a [u8]) -> Scanner<'a>
+    pub(crate) fn new(text: &'a [u8]) -> Scanner<'a>
         requires { ⌜ length (now text) ≤ 4096 ⌝ }
         ensures rest { λ r. ⌜ restOf r ≡ now (text .entry) ⌝ }
         ensures line { λ r. ⌜ lineAt r ≡ 1 ⌝ }
@@ -23,7 +23,7 @@ impl<'a> Scanner<'a> {
     }
 
     /// The next word, or the end of the line, which is taken too.
-    pub fn next_word(&mut self) -> Word<'a>
+    pub(crate) fn next_word(&mut self) -> Word<'a>
         ensures { λ r. ⌜ Next (seen r) (restOf (now (self .entry))) (lineAt (now (self .entry))) (restOf (now (self .exit))) (lineAt (now (self .exit))) ⌝ }
     {
         let text = self.rest;

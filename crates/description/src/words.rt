@@ -52,7 +52,7 @@ fn named(word: &[u8]) -> Option<Keyword>
 }
 
 /// What kind of word the bytes are.
-pub fn class<'a>(word: &'a [u8]) -> Word<'a>
+pub(crate) fn class<'a>(word: &'a [u8]) -> Word<'a>
     ensures { λ r. ⌜ seen r ≡ some (tokenOf (now (word .entry))) ⌝ }
 {
     if let Some(keyword) = named(word) {
@@ -65,7 +65,7 @@ pub fn class<'a>(word: &'a [u8]) -> Word<'a>
 }
 
 /// How many of the first bytes are spaces.
-pub fn blanks(text: &[u8]) -> usize
+pub(crate) fn blanks(text: &[u8]) -> usize
     ensures value { λ r. ⌜ r ≡ blankLen (now (text .entry)) ⌝ }
     ensures within { λ r. ⌜ r ≤ length (now (text .entry)) ⌝ }
 {
@@ -77,7 +77,7 @@ pub fn blanks(text: &[u8]) -> usize
 }
 
 /// How many of the first bytes belong to one word.
-pub fn word_len(text: &[u8]) -> usize
+pub(crate) fn word_len(text: &[u8]) -> usize
     ensures value { λ r. ⌜ r ≡ wordLen (now (text .entry)) ⌝ }
     ensures within { λ r. ⌜ r ≤ length (now (text .entry)) ⌝ }
 {

@@ -6,7 +6,6 @@ use native.Mathlib.Omega.{arith}
 use lib.Dec.{ltb}
 use Rattle.std.proofs.shelf.Tests.{ltb-true, ltb-false}
 use Rattle.modes.specs.Counters.{thirdStep, fourthStep, steps, third, fourth}
-use Rattle.modes.specs.Laws.{StraightIsStepped}
 
 step-by : (z : ℕ) → z < 2 ^ 32 → (b : Bool) → ltb (z + 0x01010104) (2 ^ 32) ≡ b →
     cond b (z + 0x01010104) (z + 0x01010104 - 2 ^ 32 + 1) ≡ (z + 0x01010104 - 1) % (2 ^ 32 - 1) + 1
@@ -17,17 +16,14 @@ step-is : (z : ℕ) → z < 2 ^ 32 → fourthStep z ≡ (z + 0x01010104 - 1) % (
 unfolding fourthStep
 step-is z h = step-by z h (ltb (z + 0x01010104) (2 ^ 32)) refl
 
-fourth-stepped : (z i : ℕ) → z < 2 ^ 32 → fourth z i ≡ steps fourthStep (suc i) z
+pub fourth-stepped : (z i : ℕ) → z < 2 ^ 32 → fourth z i ≡ steps fourthStep (suc i) z
 fourth-stepped z zero h = sym (step-is z h ∙ omega arith)
 fourth-stepped z (suc i) h =
     let e = fourth-stepped z i h in
     let l : fourth z i < 2 ^ 32 = omega arith in
     sym (ap fourthStep (sym e) ∙ (step-is (fourth z i) l ∙ omega arith))
 
-third-stepped : (y i : ℕ) → y < 2 ^ 32 → third y i ≡ steps thirdStep (suc i) y
+pub third-stepped : (y i : ℕ) → y < 2 ^ 32 → third y i ≡ steps thirdStep (suc i) y
 unfolding thirdStep
 third-stepped y zero h = omega arith
 third-stepped y (suc i) h = sym (ap thirdStep (sym (third-stepped y i h)) ∙ omega arith)
-
-pub stepped : StraightIsStepped
-stepped = (third-stepped, fourth-stepped)

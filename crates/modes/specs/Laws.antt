@@ -8,14 +8,7 @@ use Rattle.blocks.specs.Bytes.{Bytes, Block, block}
 use Rattle.blocks.specs.Ciphers.{Lawful}
 use Rattle.modes.specs.declared.mode.Mode.{Mode}
 use Rattle.modes.specs.declared.mode.Mode.the-variants.{Codebook, Counter, Feedback}
-use Rattle.modes.specs.Counters.{thirdStep, fourthStep, steps, third, fourth}
 use Rattle.modes.specs.Modes.{Chaining, size, blockCount, Depends, cipherBlock, plainBlock, enciphered, deciphered}
-
--- the counters of block i are those that i + 1 steps give, for every i
-abbrev pub StraightIsStepped : Type 0
-StraightIsStepped =
-    ((y i : ℕ) → y < 2 ^ 32 → third y i ≡ steps thirdStep (suc i) y)
-    × ((z i : ℕ) → z < 2 ^ 32 → fourth z i ≡ steps fourthStep (suc i) z)
 
 -- the cipher keeps its law, the sync is a block, counter has blocks of eight bytes, and codebook whole blocks only
 pub record Sound (w : Chaining) (bytes : ℕ) : Type 0 where
