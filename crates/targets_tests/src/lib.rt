@@ -39,7 +39,13 @@ mod tests {
     }
 
     // Erases a page and programs it twice; `bytes` are all 7.
-    fn write<T: Target>(target: &mut T, page: u32, again: bool, bytes: &[u8], out: &mut [u8]) -> Result<(), Fail> {
+    fn write<T: Target>(
+        target: &mut T,
+        page: u32,
+        again: bool,
+        bytes: &[u8],
+        out: &mut [u8],
+    ) -> Result<(), Fail> {
         target.erase(page)?;
         holds(target, page, 255, out)?;
         target.program(page, bytes)?;
@@ -90,11 +96,23 @@ mod tests {
     fn one_page() -> Result<(), Fail> {
         let mut short = [9; 16];
         let mut out = [0; 16];
-        write(&mut Flash::new(&mut short, 16, 1, 255, &OPEN)?, 0, false, &[7; 16], &mut out)?;
+        write(
+            &mut Flash::new(&mut short, 16, 1, 255, &OPEN)?,
+            0,
+            false,
+            &[7; 16],
+            &mut out,
+        )?;
         check_eq(short[15], 255)?;
         let mut long = [9; 4096];
         let mut out = [0; 4096];
-        write(&mut Ram::new(&mut long, 4096, 1, 255, &OPEN)?, 0, true, &[7; 4096], &mut out)?;
+        write(
+            &mut Ram::new(&mut long, 4096, 1, 255, &OPEN)?,
+            0,
+            true,
+            &[7; 4096],
+            &mut out,
+        )?;
         check_eq(long[4095], 255)
     }
 
