@@ -164,7 +164,7 @@ mod tests {
         in_order(&mut Ram::new(&mut memory, 16, 3, 255, &locked)?)
     }
 
-    // Sees that neither kind is built on the memory, and that its first byte stays.
+    // Sees that neither kind is built on the memory, and that the memory stays.
     fn unbuilt(memory: &mut [u8], page_length: u32, page_count: u32) -> Result<(), Fail> {
         match Flash::new(memory, page_length, page_count, 255, &OPEN) {
             Ok(_) => return Err(Fail::new("built")),
@@ -182,21 +182,19 @@ mod tests {
 
     #[test]
     fn limits() -> Result<(), Fail> {
-        let mut memory = [9; 16400];
-        unbuilt(&mut memory[0..0], 0, 1)?;
-        unbuilt(&mut memory[0..15], 15, 1)?;
-        unbuilt(&mut memory[0..17], 17, 1)?;
-        unbuilt(&mut memory[0..4112], 4112, 1)?;
-        unbuilt(&mut memory[0..0], 16, 0)?;
-        unbuilt(&mut memory[0..16400], 16, 1025)
+        unbuilt(&mut [9; 0], 0, 1)?;
+        unbuilt(&mut [9; 15], 15, 1)?;
+        unbuilt(&mut [9; 17], 17, 1)?;
+        unbuilt(&mut [9; 4112], 4112, 1)?;
+        unbuilt(&mut [9; 0], 16, 0)?;
+        unbuilt(&mut [9; 16400], 16, 1025)
     }
 
     #[test]
     fn memory_of_another_length() -> Result<(), Fail> {
-        let mut memory = [9; 97];
-        unbuilt(&mut memory[0..0], 48, 2)?;
-        unbuilt(&mut memory[0..95], 48, 2)?;
-        unbuilt(&mut memory[0..97], 48, 2)?;
-        unbuilt(&mut memory[0..48], 48, 2)
+        unbuilt(&mut [9; 0], 48, 2)?;
+        unbuilt(&mut [9; 95], 48, 2)?;
+        unbuilt(&mut [9; 97], 48, 2)?;
+        unbuilt(&mut [9; 48], 48, 2)
     }
 }

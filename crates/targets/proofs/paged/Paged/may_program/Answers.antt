@@ -4,6 +4,7 @@ use Prim.Native.Nat.{_<_}
 use Rattle.std.specs.declared.result.Result.{Result}
 use Rattle.std.specs.declared.result.Result.the-variants.{Ok, Err}
 use Rattle.refusals.specs.Codes.{Code}
+use Rattle.targets.specs.Calls.{readAnswer}
 use Rattle.targets.specs.Paged.{lengthOf, countOf, stateOf}
 use Rattle.targets.proofs.Answered.{reading-granted, program-locked, program-unready, program-free}
 use Rattle.targets.proofs.Marks.{mark-is}
@@ -16,7 +17,8 @@ returns-then-self-place g c =
     let page = c .args .page in
     let n = c .args .length in
     let count = countOf (lengthOf (t .sixteens)) (t .memory .now) in
-    let fits = reading-granted s page n (Ok tt) (sym (c .in-Continue-may-read .ensures tt)) in
+    let says : Ok tt ≡ readAnswer s page n = c .in-Continue-may-read .ensures tt in
+    let fits = reading-granted s page n (Ok tt) (sym says) in
     let why : Code → Result Unit Code = Err in
     ap why (c .refusal .ensures) ∙ sym (program-locked s page (fits .0) n (fits .1) (mark-is count (t .locked) page (fits .0) (c .if-self-place .taken)))
 
@@ -27,7 +29,8 @@ returns-then-not-self-place g c =
     let page = c .args .page in
     let n = c .args .length in
     let count = countOf (lengthOf (t .sixteens)) (t .memory .now) in
-    let fits = reading-granted s page n (Ok tt) (sym (c .in-Continue-may-read .ensures tt)) in
+    let says : Ok tt ≡ readAnswer s page n = c .in-Continue-may-read .ensures tt in
+    let fits = reading-granted s page n (Ok tt) (sym says) in
     let why : Code → Result Unit Code = Err in
     ap why (c .refusal-then-not-self-place .ensures)
     ∙ sym (program-unready s page (fits .0) n (fits .1) (mark-is count (t .locked) page (fits .0) (c .if-self-place .left)) (mark-is count (t .ready) page (fits .0) (c .if-not-self-place .taken)))
@@ -39,5 +42,6 @@ returns g c =
     let page = c .args .page in
     let n = c .args .length in
     let count = countOf (lengthOf (t .sixteens)) (t .memory .now) in
-    let fits = reading-granted s page n (Ok tt) (sym (c .in-Continue-may-read .ensures tt)) in
+    let says : Ok tt ≡ readAnswer s page n = c .in-Continue-may-read .ensures tt in
+    let fits = reading-granted s page n (Ok tt) (sym says) in
     sym (program-free s page (fits .0) n (fits .1) (mark-is count (t .locked) page (fits .0) (c .if-self-place .left)) (mark-is count (t .ready) page (fits .0) (c .if-not-self-place .left)))
