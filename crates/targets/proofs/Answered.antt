@@ -1,7 +1,7 @@
 -- What a call answers, by what it finds.
-use mathlib.Core.Path.{_≡_, refl, sym, _∙_, ap}
-use mathlib.Core.Bool.{Bool, true, false, cond, not}
-use Prim.Native.Nat.{ℕ, _<_, _≤_}
+use mathlib.Core.Path.{_≡_, refl, _∙_, ap}
+use mathlib.Core.Bool.{Bool, true, false, not}
+use Prim.Native.Nat.{ℕ, _<_}
 use native.Mathlib.Omega.{arith}
 use lib.Dec.{eqb, leb}
 use Rattle.std.proofs.shelf.Tests.{lt-leb, eq-eqb, leb-false, eqb-true, not-false, cond-true, cond-false}
@@ -12,7 +12,7 @@ use Rattle.refusals.specs.declared.Reason.the-variants.{WrongBuffer, NoSuchPage
 use Rattle.refusals.specs.declared.Layer.the-variants.{Target}
 use Rattle.refusals.specs.Codes.{Code, refuse}
 use Rattle.targets.specs.State.{TargetState, isLocked, isReady}
-use Rattle.targets.specs.Calls.{refusedIf, eraseAnswer, reading, readAnswer, programAnswer}
+use Rattle.targets.specs.Calls.{refusedIf, eraseAnswer, reading, programAnswer}
 
 on : {so : Bool} (why : Reason) (place : ℕ) (rest : Result Unit Code) → so ≡ true → refusedIf so why place rest ≡ Err (refuse why place Target)
 on {so} why place rest e = cond-true so _ _ e

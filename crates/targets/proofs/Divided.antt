@@ -1,7 +1,7 @@
 -- Pages of one length in memory, by division.
 use mathlib.Core.Path.{_≡_, _∙_, ap}
 use mathlib.Core.List.{List}
-use Prim.Native.Nat.{ℕ, suc, _+_, _*_, _/_, min, _<_, _≤_}
+use Prim.Native.Nat.{ℕ, _+_, _*_, _/_, min, _<_, _≤_}
 use native.Mathlib.Nat.{div-mul-le-self, mul-le-mul-right, mul-div-cancel-left, add-mul, one-mul}
 use native.Mathlib.Omega.{arith}
 use lib.ListN.{length}

@@ -1,17 +1,17 @@
 -- What stays over every sequence of calls.
 use mathlib.Core.Path.{_≡_, refl, sym, _∙_, ap, ap₂}
-use mathlib.Core.Bool.{Bool, true, false}
+use mathlib.Core.Bool.{Bool, true}
 use mathlib.Core.List.{List, [], _∷_}
-use Prim.Native.Nat.{ℕ, zero, suc, _<_}
+use Prim.Native.Nat.{ℕ, zero, suc}
 use native.Mathlib.Omega.{arith}
-use lib.ListN.{length, getD, set, replicate}
+use lib.ListN.{length, set, replicate}
 use Rattle.std.proofs.shelf.Tests.{both-ways}
 use Rattle.std.proofs.shelf.Lists.{getD-set-other, getD-set-same}
 use Rattle.std.specs.declared.result.Result.{Result}
 use Rattle.std.specs.declared.result.Result.the-variants.{Ok, Err}
 use Rattle.refusals.specs.Codes.{Code}
 use Rattle.targets.specs.State.{TargetState, pageOf, isLocked}
-use Rattle.targets.specs.Calls.{after, withPage, eraseAnswer, erased, programAnswer, programmed}
+use Rattle.targets.specs.Calls.{after, withPage, eraseAnswer, programAnswer, programmed}
 use Rattle.targets.specs.Laws.{Step, erase, program, read, step, run, Alters, Untouched, ReadsBack, LocksKeep, AlwaysReady}
 use Rattle.targets.proofs.Answered.{erase-granted, program-granted, reading-is}
 

@@ -43,6 +43,7 @@ erased t p = after (eraseAnswer t p) t (withPage t p (replicate (t .pageLength) 
 
 -- ---- reading page p into a buffer of n bytes
 
+-- what reading and programming both ask: a page that is there, and a buffer as long as a page
 abbrev pub reading : TargetState → ℕ → ℕ → Result Unit Code → Result Unit Code
 reading t p n rest = refusedIf (leb (t .pageCount) p) NoSuchPage p (refusedIf (not (eqb n (t .pageLength))) WrongBuffer 0 rest)
 
