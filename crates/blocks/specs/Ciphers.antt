@@ -40,6 +40,6 @@ pub record Lawful (c : BlockMap) : Type 0 where
 abbrev pub lengthAnswer : ℕ → List ℕ → Result Unit Code
 lengthAnswer n part = cond (eqb (length part) n) (Ok tt) (Err (refuse WrongBuffer 0 Download))
 
--- and left as it was; any other is replaced by its image under the map
+-- and left as it was; a part of n bytes is replaced by its image under the map
 abbrev pub replaced : ℕ → (List ℕ → List ℕ) → List ℕ → List ℕ
 replaced n map part = cond (eqb (length part) n) (map part) part

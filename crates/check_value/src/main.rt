@@ -7,18 +7,27 @@ use std::error::AnyError;
 use support::report_on;
 use support::shown::ReportDisplay;
 
-fn main(rt: LibcRuntime) -> Result<(), AnyError> {
-    let text = read_or_empty(&rt, "target.tdf")?;
-    let keys = read_or_empty(&rt, "keys.bin")?;
-    let image = read_or_empty(&rt, "image.bin")?;
+/// Prints the answer, and says whether there was one.
+fn answer(rt: &LibcRuntime) -> Result<bool, AnyError> {
+    let text = read_or_empty(rt, "target.tdf")?;
+    let keys = read_or_empty(rt, "keys.bin")?;
+    let image = read_or_empty(rt, "image.bin")?;
     match report_on(text.as_slice(), keys.as_slice(), image.as_slice()) {
         Ok(report) => {
             println!(rt, "{report}")?;
-            Ok(())
+            Ok(true)
         }
         Err(refusal) => {
             println!(rt, "{refusal}")?;
-            Err("refused".into())
+            Ok(false)
         }
+    }
+}
+
+fn main(rt: LibcRuntime) -> Result<(), AnyError> {
+    if rt.report(answer(&rt))? {
+        Ok(())
+    } else {
+        Err("refused".into())
     }
 }

@@ -11,7 +11,7 @@
 //! - `lock` and a page that is locked: below the page count, which comes earlier; 16 such lines at most;
 //! - `box`, a row from 1 to 8 and its sixteen numbers from 0 to 15.
 //!
-//! Each is given once. specs/Judge.antt is the definition, which `describe` follows for every text.
+//! Each part, row and locked page is given once. specs/Judge.antt is the definition, which `describe` follows for every text.
 //!
 //! Open results: none.
 

@@ -91,7 +91,7 @@ fn encipher_judged<C: BlockCipher>(
 }
 
 /// Enciphers a text in place. A sync that does not agree with the mode, or counter with a cipher of
-/// sixteen bytes, is refused; so is a text without whole blocks in codebook.
+/// sixteen bytes, is refused; so is a text in codebook whose length is no multiple of the block's.
 pub fn encipher_text<C: BlockCipher>(
     cipher: &C,
     mode: Mode,

@@ -1,11 +1,11 @@
 //! Why a call is refused, where, and in which layer.
 //!
 //! A refusal has three parts: the reason, by its case; the place, whose meaning the reason fixes
-//! (a line, an entry, a block, a page, or 0); and the layer that found it. The numbers by which
+//! (a line, a part of a description, an entry, a block, a page, or 0); and the layer that found it. The numbers by which
 //! reasons and layers are known outside are `number` and `layerNumber` of specs/Codes.antt, and the
 //! contracts of every crate state refusals by them.
 //!
-//! Open results: none.
+//! Open results (results that no rule fixes, so that a contract gives only properties of them): none.
 
 ghost use mathlib.Core.Path.{_≡_};
 ghost use Rattle.std.specs.declared.option.Option.the-variants.{Some};
@@ -25,7 +25,7 @@ pub enum Reason {
     WrongSize,
     /// A field, or a number of a substitution table, that is not allowed.
     BadField,
-    /// An image length that is not allowed.
+    /// A length of an image or a text that is not allowed.
     BadLength,
     /// Pages beyond the target, or shared by two sections.
     BadPages,
@@ -54,7 +54,7 @@ pub enum Layer {
     Description,
     /// The download file: its sections, tables and keys.
     File,
-    /// Ciphers, modes and downloads.
+    /// Blocks, buffers and downloads.
     Download,
     /// Targets.
     Target,

@@ -18,6 +18,9 @@ box 7 0 0 0 0 0 0 0 0 0 0 0 0 0 0 0 0
 box 8 0 0 0 0 0 0 0 0 0 0 0 0 0 0 0 0
 ";
 
+    // How many bytes of it come before the rows.
+    const PARTS: usize = 36;
+
     const IMAGE: [u8; 9] = [1, 2, 3, 4, 5, 6, 7, 8, 0x11];
 
     fn refused(
@@ -94,6 +97,27 @@ box 8 0 0 0 0 0 0 0 0 0 0 0 0 0 0 0 0
             return Err(Fail::new("refused"));
         };
         check_eq(same.value, 0x0403_0210)
+    }
+
+    #[test]
+    fn kind_and_locked_pages_are_printed(rt: LibcRuntime) -> Result<(), Fail> {
+        let mut text = Vec::new(rt.alloc());
+        text.extend_from_slice(b"kind ram\npage 16\npages 1024\nlock 1023\nlock 0\nfill 0\n")?;
+        for b in TARGET.iter().skip(PARTS) {
+            text.push(*b)?;
+        }
+        let Ok(report) = report_on(text.as_slice(), &[0; 64], &IMAGE) else {
+            return Err(Fail::new("refused"));
+        };
+        check_eq(report.value, report.wrong).note(
+            "fill 0 to the end of the last block changes nothing",
+        )?;
+        let shown = format!(rt.alloc(), "{report}")?;
+        check(
+            shown.as_str().starts_with(
+                "kind ram\npage length 16\npages 1024\nfill 0\nlocked pages 0 1023\n",
+            ),
+        )
     }
 
     #[test]

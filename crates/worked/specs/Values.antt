@@ -70,5 +70,30 @@ Imitovstavki =
     × (imitovstavka zeros zeroKey 32 nine ≡ 0x04030210)
     × (imitovstavka zeros zeroKey 32 (nine ++ replicate 7 255) ≡ 0xFBFCFD10)
 
+-- table CryptoPro-A and the key bytes 0 to 31: values of another implementation
+abbrev pub tableA : Rows
+tableA =
+    (9 ∷ 6 ∷ 3 ∷ 2 ∷ 8 ∷ 11 ∷ 1 ∷ 7 ∷ 10 ∷ 4 ∷ 14 ∷ 15 ∷ 12 ∷ 0 ∷ 13 ∷ 5 ∷ [])
+    ∷ (3 ∷ 7 ∷ 14 ∷ 9 ∷ 8 ∷ 10 ∷ 15 ∷ 0 ∷ 5 ∷ 2 ∷ 6 ∷ 12 ∷ 11 ∷ 4 ∷ 13 ∷ 1 ∷ [])
+    ∷ (14 ∷ 4 ∷ 6 ∷ 2 ∷ 11 ∷ 3 ∷ 13 ∷ 8 ∷ 12 ∷ 15 ∷ 5 ∷ 10 ∷ 0 ∷ 7 ∷ 1 ∷ 9 ∷ [])
+    ∷ (14 ∷ 7 ∷ 10 ∷ 12 ∷ 13 ∷ 1 ∷ 3 ∷ 9 ∷ 0 ∷ 2 ∷ 11 ∷ 4 ∷ 15 ∷ 8 ∷ 5 ∷ 6 ∷ [])
+    ∷ (11 ∷ 5 ∷ 1 ∷ 9 ∷ 8 ∷ 13 ∷ 15 ∷ 0 ∷ 14 ∷ 4 ∷ 2 ∷ 3 ∷ 12 ∷ 7 ∷ 10 ∷ 6 ∷ [])
+    ∷ (3 ∷ 10 ∷ 13 ∷ 12 ∷ 1 ∷ 2 ∷ 0 ∷ 11 ∷ 7 ∷ 5 ∷ 9 ∷ 4 ∷ 8 ∷ 15 ∷ 14 ∷ 6 ∷ [])
+    ∷ (1 ∷ 13 ∷ 2 ∷ 9 ∷ 7 ∷ 10 ∷ 6 ∷ 0 ∷ 8 ∷ 12 ∷ 4 ∷ 5 ∷ 15 ∷ 3 ∷ 11 ∷ 14 ∷ [])
+    ∷ (11 ∷ 10 ∷ 15 ∷ 5 ∷ 0 ∷ 12 ∷ 14 ∷ 8 ∷ 6 ∷ 2 ∷ 3 ∷ 9 ∷ 1 ∷ 7 ∷ 13 ∷ 4 ∷ [])
+    ∷ []
+
+abbrev pub keyA : List ℕ
+keyA = 0x03020100 ∷ 0x07060504 ∷ 0x0b0a0908 ∷ 0x0f0e0d0c ∷ 0x13121110 ∷ 0x17161514 ∷ 0x1b1a1918 ∷ 0x1f1e1d1c ∷ []
+
+abbrev pub textA : List ℕ
+textA = 0x03 ∷ 0x0a ∷ 0x11 ∷ 0x18 ∷ 0x1f ∷ 0x26 ∷ 0x2d ∷ 0x34 ∷ 0x3b ∷ []
+
+abbrev pub Elsewhere : Type 0
+Elsewhere =
+    (imitovstavka tableA keyA 32 textA ≡ 0x6d5b99d7)
+    × (body (record { cipher = gost tableA keyA; mode = Feedback; sync = 1 ∷ 2 ∷ 3 ∷ 4 ∷ 5 ∷ 6 ∷ 7 ∷ 8 ∷ [] }) textA
+    ≡ 0x24 ∷ 0xc0 ∷ 0x84 ∷ 0x67 ∷ 0x7b ∷ 0x00 ∷ 0x8c ∷ 0xd0 ∷ 0x56 ∷ [])
+
 abbrev pub WorkedValues : Type 0
-WorkedValues = Rounds × Enciphering × CounterMode × FeedbackMode × Imitovstavki
+WorkedValues = Rounds × Enciphering × CounterMode × FeedbackMode × Imitovstavki × Elsewhere

@@ -12,7 +12,7 @@ use Rattle.worked.proofs.worked_values.Needs as need
 
 worked : WorkedValues
 unfolding mixed round lastRound forward registers blockOf enciphered sixteen thirdStep fourthStep gamma body absorbed imitovstavka
-worked = ((refl, refl, refl), refl, (refl, refl, refl, refl, refl), refl, (refl, refl, refl, refl))
+worked = ((refl, refl, refl), refl, (refl, refl, refl, refl, refl), refl, (refl, refl, refl, refl), (refl, refl))
 
 pub returns : need.returns
 returns c =
