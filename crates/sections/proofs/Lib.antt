@@ -1,0 +1,4 @@
+pub mod Numbers
+pub mod Judged
+pub mod Listed
+pub mod Sealed

@@ -1,0 +1,5 @@
+pub mod Images
+pub mod Entries
+pub mod Meaning
+pub mod Files
+pub mod Seals
