@@ -161,7 +161,7 @@ fn gost_agrees(heap: Global, v: &Vector) -> Result<bool, Fault> {
 }
 
 /// Whether what the library makes of a vector is what is expected, in both directions.
-pub fn agrees(heap: Global, v: &Vector) -> Result<bool, Fault> {
+pub(crate) fn agrees(heap: Global, v: &Vector) -> Result<bool, Fault> {
     match v.group {
         Group::KuznyechikKeys
         | Group::KuznyechikBlock

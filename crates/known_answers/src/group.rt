@@ -32,7 +32,7 @@ impl Group {
     ];
 
     /// The name in the file and in what is printed.
-    pub fn name(self) -> &'static str {
+    pub(crate) fn name(self) -> &'static str {
         match self {
             Group::KuznyechikKeys => "kuznyechik round keys",
             Group::KuznyechikBlock => "kuznyechik block",
@@ -49,7 +49,7 @@ impl Group {
     }
 
     /// The group of a name.
-    pub fn named(name: &str) -> Option<Group> {
+    pub(crate) fn named(name: &str) -> Option<Group> {
         for group in Group::ALL {
             if group.name() == name {
                 return Some(group);

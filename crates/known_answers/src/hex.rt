@@ -18,7 +18,7 @@ fn digit(c: u8) -> Result<u8, Fault>
 }
 
 /// The bytes of a word of hex. `-` stands for none.
-pub fn read_hex(heap: Global, word: &str) -> Result<Vec<u8>, Fault> {
+pub(crate) fn read_hex(heap: Global, word: &str) -> Result<Vec<u8>, Fault> {
     let mut bytes = Vec::new(heap);
     if word == "-" {
         return Ok(bytes);

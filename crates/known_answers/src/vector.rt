@@ -17,7 +17,7 @@ pub struct Vector {
 }
 
 /// The vector of a line: group, key, sync, text and expected bytes, split by commas.
-pub fn read_vector(heap: Global, line: &str) -> Result<Vector, Fault> {
+pub(crate) fn read_vector(heap: Global, line: &str) -> Result<Vector, Fault> {
     let mut words = Vec::new(heap);
     for word in line.split(',') {
         words.push(word)?;
