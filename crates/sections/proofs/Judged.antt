@@ -1,8 +1,7 @@
 -- What fields that were accepted keep.
-use mathlib.Core.Path.{_≡_, refl, sym, ap, _∙_}
-use mathlib.Core.Bool.{Bool, true, false, cond, _&&_}
+use mathlib.Core.Path.{_≡_, refl, ap}
+use mathlib.Core.Bool.{true, false, _&&_}
 use Prim.Native.Nat.{ℕ, _^_, _≤_}
-use native.Mathlib.Omega.{arith}
 use lib.Dec.{eqb, leb, ltb}
 use Rattle.std.proofs.shelf.Tests.{and-parts, leb-true}
 use Rattle.std.specs.declared.option.Option.{Option}
@@ -21,7 +20,7 @@ use Rattle.modes.specs.Calls.{agrees, wholeIn, modeAnswer}
 use Rattle.sections.specs.declared.kind.CipherKind.{CipherKind}
 use Rattle.sections.specs.declared.kind.CipherKind.the-variants.{Gost, Kuznyechik}
 use Rattle.sections.specs.declared.fields.Fields.{Fields}
-use Rattle.sections.specs.Images.{blockLength, allowedImage}
+use Rattle.sections.specs.Images.{blockLength}
 use Rattle.sections.specs.Entries.{goodTag, goodSync, syncIn, goodFields, goodLength, cipherNamed, modeNamed, described, judgedAs, judgedFields}
 
 -- a sync that is as stated agrees with its mode

@@ -2,3 +2,4 @@ pub mod Numbers
 pub mod Judged
 pub mod Listed
 pub mod Sealed
+pub mod Written

@@ -1,19 +1,18 @@
 -- Steps of listing a file.
 use mathlib.Core.Path.{_≡_, refl, sym, ap, _∙_}
-use mathlib.Core.Bool.{Bool, true, false, cond, not, _&&_, _||_}
+use mathlib.Core.Bool.{Bool, true, false, _&&_, _||_}
 use mathlib.Core.List.{List, [], _∷_, _++_, map}
-use Prim.Native.Nat.{ℕ, zero, suc, _+_, _-_, _*_, _<_, _≤_, min}
+use Prim.Native.Nat.{ℕ, zero, suc, _+_, _-_, _*_, _<_, _≤_}
 use native.Mathlib.Omega.{arith}
-use lib.Dec.{eqb, leb, ltb}
-use lib.ListN.{length, getD, take, drop, set, length-take, length-set}
+use lib.Dec.{eqb, leb}
+use lib.ListN.{length, getD, take, drop, set, length-take}
 use lib.Seq.{take-suc-set}
 use Rattle.std.proofs.shelf.Lists.{length-map, map-more, map-push, getD-map, getD-take}
 use Rattle.std.proofs.shelf.Tests.{and-parts, leb-true, le-leb, lt-leb, eq-eqb, ne-eqb}
-use Rattle.std.specs.declared.option.Option.{Option}
 use Rattle.std.specs.declared.option.Option.the-variants.{Some, None}
 use Rattle.std.specs.declared.result.Result.{Result}
 use Rattle.std.specs.declared.result.Result.the-variants.{Ok, Err}
-use Rattle.refusals.specs.declared.Reason.the-variants.{WrongSize, BadField, BadPages, BodiesEnd, WrongBuffer}
+use Rattle.refusals.specs.declared.Reason.the-variants.{WrongSize, BadField, BadPages, WrongBuffer}
 use Rattle.refusals.specs.declared.Layer.the-variants.{File}
 use Rattle.refusals.specs.Codes.{Code, refuse}
 use Rattle.sections.specs.declared.fields.Fields.{Fields}
@@ -139,12 +138,6 @@ pub at-end : (pageLength pageCount : ℕ) (file : List ℕ) (count i offset : �
 at-end pageLength pageCount file count i offset earlier l h =
     let f : count - i ≡ 0 = omega arith in
     rw (f, eq-eqb offset (length file) h)
-
-pub not-at-end : (pageLength pageCount : ℕ) (file : List ℕ) (count i offset : ℕ) (earlier : List Described) → i ≡ count → (offset ≡ length file → ⊥) →
-    listedFrom pageLength pageCount file (count - i) i offset earlier ≡ Err (refuse BodiesEnd 0 File)
-not-at-end pageLength pageCount file count i offset earlier l h =
-    let f : count - i ≡ 0 = omega arith in
-    rw (f, ne-eqb offset (length file) h)
 
 -- one more section in the array
 pub put : (xs : List Section) (i : ℕ) (s : Section) → i < length xs → map meaningOf (take (i + 1) (set xs i s)) ≡ map meaningOf (take i xs) ++ meaningOf s ∷ []

@@ -1,6 +1,6 @@
 -- What a section that may be sealed keeps.
 use mathlib.Core.Path.{_≡_, refl, sym, ap, subst, _∙_}
-use mathlib.Core.Bool.{Bool, true, false, cond, _&&_}
+use mathlib.Core.Bool.{true, false, _&&_}
 use mathlib.Core.List.{List, [], _∷_, _++_}
 use mathlib.Core.Logic.{inl, inr}
 use Prim.Native.Nat.{ℕ}
@@ -12,12 +12,12 @@ use Rattle.std.specs.declared.option.Option.{Option}
 use Rattle.std.specs.declared.option.Option.the-variants.{Some, None}
 use Rattle.std.specs.declared.result.Result.{Result}
 use Rattle.std.specs.declared.result.Result.the-variants.{Ok, Err}
-use Rattle.refusals.specs.declared.Reason.the-variants.{BadField, BadLength, WrongBuffer}
+use Rattle.refusals.specs.declared.Reason.the-variants.{WrongBuffer}
 use Rattle.refusals.specs.declared.Layer.the-variants.{File}
 use Rattle.refusals.specs.Codes.{Code, refuse}
 use Rattle.blocks.specs.Bytes.{Bytes}
 use Rattle.blocks.specs.Ciphers.{BlockMap}
-use Rattle.blocks.proofs.Spelled.{spelled, spelled-all}
+use Rattle.blocks.proofs.Spelled.{spelled-all}
 use Rattle.modes.specs.declared.mode.Mode.{Mode}
 use Rattle.modes.specs.Modes.{enciphered, deciphered}
 use Rattle.modes.specs.Calls.{modeAnswer, wholeIn, textAfter}

@@ -3,3 +3,4 @@ pub mod Entries
 pub mod Meaning
 pub mod Files
 pub mod Seals
+pub mod Written

@@ -1,7 +1,7 @@
 //! Reading and judging an entry.
 
 ghost use mathlib.Core.Path.{_≡_};
-ghost use Prim.Native.Nat.{ℕ, _+_, _≤_};
+ghost use Prim.Native.Nat.{_+_, _≤_};
 ghost use lib.ListN.{length};
 ghost use Rattle.refusals.specs.Codes.{answer};
 ghost use Rattle.sections.specs.Entries.{number, fieldsOf, cipherNamed, modeNamed, goodTag, goodSync, syncIn, goodFields, goodLength, judgedFields};

@@ -2,11 +2,11 @@
 
 ghost use mathlib.Core.Path.{_≡_};
 ghost use mathlib.Core.List.{[], map};
-ghost use Prim.Native.Nat.{ℕ, _+_, _*_, _<_, _≤_, _^_};
+ghost use Prim.Native.Nat.{_+_, _*_, _<_, _≤_};
 ghost use lib.ListN.{length, take};
 ghost use Rattle.refusals.specs.Codes.{answer};
-ghost use Rattle.sections.specs.Images.{pagesFor};
 ghost use Rattle.sections.specs.Files.{pagesEnd, shares, sharesAny, nextSection, listedFrom, goodHeader, bodiesFrom, listed, sectionAt, asked};
+ghost use Rattle.sections.specs.Written.{ListsWritten};
 ghost use Rattle.sections.specs.Meaning.{meaningOf, sectionsIn};
 use crate::entry::judge_fields;
 use crate::entry::read_fields;
@@ -130,9 +130,12 @@ fn list_entries(
     Ok(Listing { sections, count })
 }
 
-/// Lists the sections of a download file for a target with pages of so many bytes, so many of them.
+/// Lists the sections of a download file for a target with so many pages of so many bytes. The first
+/// refusal is the answer: pages of length 0; the file's size; the header; entry by entry a field, the
+/// length, the pages; then bodies that do not end where the file ends.
 pub fn list(file: &[u8], page_length: u32, page_count: u32) -> Result<Listing, Refusal>
     ensures value { λ r. ⌜ answer sectionsIn r ≡ listed «page_length» «page_count» (now (file .entry)) ⌝ }
+    ensures written { λ _. ⌜ ListsWritten ⌝ }
 {
     if page_length == 0 {
         return Err(Refusal::new(Reason::WrongBuffer, 0, Layer::File));

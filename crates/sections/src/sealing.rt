@@ -1,7 +1,6 @@
 //! Sealing a section.
 
 ghost use mathlib.Core.Path.{_≡_};
-ghost use Prim.Native.Nat.{ℕ, _≤_};
 ghost use lib.ListN.{length};
 ghost use Rattle.std.specs.declared.result.Result.the-variants.{Ok};
 ghost use Rattle.refusals.specs.Codes.{answer, outcome};
@@ -16,7 +15,6 @@ use crate::entry::cipher_named;
 use crate::entry::judge_fields;
 use crate::entry::read_fields;
 use crate::fields::Fields;
-use crate::kind::CipherKind;
 use crate::section::Section;
 use blocks::BlockCipher;
 use blocks::byte_count;
@@ -52,8 +50,7 @@ fn is_sized(n: usize, cipher: u8) -> bool
     ensures { λ r. ⌜ r ≡ sized n (cipherNamed cipher) ⌝ }
 {
     match cipher_named(cipher) {
-        Some(CipherKind::Gost) => n == 8,
-        Some(CipherKind::Kuznyechik) => n == 16,
+        Some(named) => n == named.block_length(),
         None => true,
     }
 }

@@ -176,10 +176,12 @@ mod tests {
         list(&file[..36 + size], 16, 1027)
     }
 
-    // A file of two sections, the first page of the second changed.
-    fn two(first_page: u8) -> Result<Listing, Refusal> {
+    // A file of two sections, the mode, the first page and the length of the second changed.
+    fn two(mode: u8, first_page: u8, length: u8) -> Result<Listing, Refusal> {
         let mut second = SECOND;
+        second[1] = mode;
         second[4] = first_page;
+        second[8] = length;
         let mut file = [0; 109];
         file[0] = 1;
         file[1] = 2;
@@ -219,7 +221,8 @@ mod tests {
         refusal(changed(6, 1), 5, 1)?;
         refusal(changed(7, 1), 5, 1)?;
         refusal(changed(20, 1), 5, 1).note("a sync of nine bytes")?;
-        refusal(changed(27, 1), 5, 1)
+        refusal(changed(27, 1), 5, 1)?;
+        refusal(two(2, 1, 32), 5, 2).note("counter with blocks of sixteen bytes")
     }
 
     #[test]
@@ -238,6 +241,7 @@ mod tests {
         let _ = accepted(of_length(9, 0, 9))?;
         let _ = accepted(of_length(0, 64, 16384))?;
         refusal(of_length(1, 64, 16385), 6, 1)?;
+        refusal(two(1, 1, 33), 6, 2).note("codebook without whole blocks")?;
         refusal(of_length(9, 0, 8), 8, 0)?;
         refusal(of_length(9, 0, 10), 8, 0)
     }
@@ -246,17 +250,17 @@ mod tests {
     fn pages() -> Result<(), Fail> {
         let _ = accepted(changed(4, 3))?;
         refusal(changed(4, 4), 7, 1)?;
-        let touching = accepted(two(1))?;
+        let touching = accepted(two(1, 1, 32))?;
         check_eq(touching.count(), 2)?;
-        let _ = accepted(two(4))?;
-        refusal(two(2), 7, 2)?;
-        refusal(two(3), 7, 2)?;
-        refusal(two(5), 7, 2)
+        let _ = accepted(two(1, 4, 32))?;
+        refusal(two(1, 2, 32), 7, 2)?;
+        refusal(two(1, 3, 32), 7, 2)?;
+        refusal(two(1, 5, 32), 7, 2)
     }
 
     #[test]
     fn asked_sections() -> Result<(), Fail> {
-        let listing = accepted(two(1))?;
+        let listing = accepted(two(1, 1, 32))?;
         let Ok(second) = listing.section(2) else {
             return Err(Fail::new("refused"));
         };

@@ -1,4 +1,4 @@
-use mathlib.Core.Path.{_≡_, refl, sym, _∙_, ap}
+use mathlib.Core.Path.{sym, _∙_}
 use Rattle.refusals.specs.declared.Reason.the-variants.{BadField, BadLength}
 use Rattle.sections.proofs.Judged.{no-cipher, no-mode, as-named, bad-fields, bad-length, good, told}
 use Rattle.sections.proofs.entry.judge_fields.Needs as need

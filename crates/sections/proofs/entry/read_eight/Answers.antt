@@ -1,4 +1,4 @@
-use mathlib.Core.Path.{_≡_, _∙_, ap₂}
+use mathlib.Core.Path.{_∙_, ap₂}
 use Prim.Native.Nat.{ℕ, _+_, _*_}
 use Rattle.sections.proofs.Numbers.{eight-at}
 use Rattle.sections.proofs.entry.read_eight.Needs as need

@@ -1,16 +1,14 @@
 use mathlib.Core.Path.{_≡_, refl, sym, _∙_, ap}
 use mathlib.Core.List.{List, [], map}
-use Prim.Native.Nat.{ℕ, _+_, _-_, _*_, _<_}
+use Prim.Native.Nat.{ℕ, _+_, _-_, _<_}
 use native.Mathlib.Omega.{arith}
 use lib.ListN.{length, take, length-set}
 use Rattle.std.specs.declared.result.Result.the-variants.{Ok}
-use Rattle.refusals.specs.declared.Reason.the-variants.{BodiesEnd}
 use Rattle.refusals.specs.Codes.{codeOf}
 use Rattle.sections.specs.Entries.{Described}
 use Rattle.sections.specs.Files.{listedFrom, bodiesFrom}
 use Rattle.sections.specs.Meaning.{meaningOf}
-use Rattle.sections.proofs.Judged.{told}
-use Rattle.sections.proofs.Listed.{one-more, one-bad, at-end, not-at-end, put, short-enough}
+use Rattle.sections.proofs.Listed.{one-more, one-bad, at-end, put, short-enough}
 use Rattle.sections.proofs.file.list_entries.Needs as need
 
 pub loop-i-holds : need.loop-i-holds

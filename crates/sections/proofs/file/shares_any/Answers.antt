@@ -1,8 +1,7 @@
 use mathlib.Core.Path.{_≡_, sym, _∙_}
 use mathlib.Core.Bool.{Bool}
 use native.Mathlib.Omega.{arith}
-use Prim.Native.Nat.{_<_}
-use lib.ListN.{length, getD}
+use lib.ListN.{getD}
 use Rattle.sections.specs.Files.{shares}
 use Rattle.sections.specs.Meaning.{meaningOf}
 use Rattle.sections.proofs.Listed.{shares-more, or-true, or-false}

@@ -1,4 +1,3 @@
-use mathlib.Core.Path.{_≡_, sym, _∙_, ap, subst}
 use Rattle.imitovstavka.specs.Chain.{imitovstavka}
 use Rattle.sections.proofs.sealing.tag_of.Needs as need
 
