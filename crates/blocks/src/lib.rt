@@ -8,6 +8,8 @@
 //!
 //! Open results: none.
 
+#![tactic(auto)]
+
 ghost use Rattle.std.specs.Prelude.{◌≡◌, length};
 ghost use Rattle.refusals.specs.Codes.{outcome};
 ghost use Rattle.blocks.specs.Bytes.{Bytes, xored};

@@ -1,6 +1,8 @@
 //! Answers a support call: reads `target.tdf`, `keys.bin` and `image.bin` in its folder and prints
 //! the value that the chip should show, and the wrong reading beside it.
 
+#![tactic(auto)]
+
 use anyhow::anyhow;
 use files::read_or_empty;
 use support::report_on;

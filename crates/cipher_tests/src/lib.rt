@@ -2,6 +2,8 @@
 //!
 //! The values with table CryptoPro-A were made by OpenSSL's GOST engine (`gost-mac`).
 
+#![tactic(auto)]
+
 #[cfg(test)]
 mod tests {
     use blocks::BlockCipher;

@@ -15,6 +15,8 @@
 //!
 //! Open results: none.
 
+#![tactic(auto)]
+
 mod draft;
 mod finish;
 mod keywords;

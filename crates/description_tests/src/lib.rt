@@ -3,6 +3,8 @@
 //! A part of a description that is sound so far is refused only at its end, by the lowest part that is
 //! missing. So `refused(text, 3, 1)` says of a text with no `kind` line that every line of it was taken.
 
+#![tactic(auto)]
+
 #[cfg(test)]
 mod tests {
     use description::describe;

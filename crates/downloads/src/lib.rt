@@ -13,6 +13,8 @@
 //!
 //! Open results: none.
 
+#![tactic(auto)]
+
 pub mod arrivals;
 pub mod frames;
 pub mod giving;

@@ -1,5 +1,7 @@
 //! Tests of downloads: traces, and the calls that a trace cannot make.
 
+#![tactic(auto)]
+
 ghost use Rattle.std.specs.Prelude.{◌+◌, ◌≤◌, length};
 
 #[cfg(test)]

@@ -2,6 +2,8 @@
 //!
 //! Open results: what a file holds, which no contract can say.
 
+#![tactic(auto)]
+
 use std::{fs, io};
 
 /// The bytes of a file. A missing file counts as empty; any other failure is handed on.

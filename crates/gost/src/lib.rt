@@ -7,6 +7,8 @@
 //!
 //! Open results: none.
 
+#![tactic(auto)]
+
 pub mod cipher;
 pub mod key;
 mod rounds;

@@ -6,6 +6,8 @@
 //!
 //! Open results: none.
 
+#![tactic(auto)]
+
 ghost use Rattle.std.specs.Prelude.{◌≡◌};
 ghost use Rattle.refusals.specs.Codes.{answer};
 ghost use Rattle.gost.specs.Cipher.{rows_of};

@@ -1,6 +1,8 @@
 //! Runs the vectors of `vectors.txt` in its folder, which other implementations and the standards
 //! gave, and prints for each group how many agreed.
 
+#![tactic(auto)]
+
 mod ciphers;
 mod fault;
 mod group;

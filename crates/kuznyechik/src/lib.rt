@@ -7,6 +7,8 @@
 //!
 //! Open results: none.
 
+#![tactic(auto)]
+
 pub mod cipher;
 mod field;
 pub mod key;

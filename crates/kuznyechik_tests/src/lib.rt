@@ -1,5 +1,7 @@
 //! Tests of Kuznyechik.
 
+#![tactic(auto)]
+
 #[cfg(test)]
 mod tests {
     use blocks::BlockCipher;

@@ -8,6 +8,8 @@
 //!
 //! Open results: none.
 
+#![tactic(auto)]
+
 pub mod block;
 pub mod masks;
 pub mod mode;

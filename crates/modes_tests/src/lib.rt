@@ -2,6 +2,8 @@
 //!
 //! The values with table CryptoPro-A were made by OpenSSL's GOST engine (`gost89`, `gost89-cnt`).
 
+#![tactic(auto)]
+
 #[cfg(test)]
 mod tests {
     use blocks::BlockCipher;

@@ -9,6 +9,8 @@
 //! refusal of a section, of the file's size or of its pages; keys and the number of sections are judged
 //! before.
 
+#![tactic(auto)]
+
 mod entry;
 pub mod fault;
 mod filling;

@@ -1,5 +1,7 @@
 //! Tests of packing: a good file of both ciphers and the three modes, and each refusal.
 
+#![tactic(auto)]
+
 #[cfg(test)]
 mod tests {
     use description::describe;

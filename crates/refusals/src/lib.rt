@@ -7,6 +7,8 @@
 //!
 //! Open results (results that no rule fixes, so that a contract gives only properties of them): none.
 
+#![tactic(auto)]
+
 ghost use Rattle.std.specs.Prelude.{◌≡◌, Some};
 ghost use Rattle.refusals.specs.Codes.{number, layer_number, refusal_text};
 

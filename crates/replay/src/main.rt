@@ -6,6 +6,8 @@
 //! Every call is made by `traces::run::run`, whose contract says what each call answers and does. How
 //! a script is read, and what is printed, is tested and not proved.
 
+#![tactic(auto)]
+
 mod fault;
 mod frames;
 mod marks;

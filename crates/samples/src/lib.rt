@@ -1,5 +1,7 @@
 //! What tests share: the substitution table CryptoPro-A of RFC 4357, and a key.
 
+#![tactic(auto)]
+
 /// Table CryptoPro-A, the row of the lowest nibble first.
 pub const TABLE_A: [[u8; 16]; 8] = [
     [9, 6, 3, 2, 8, 11, 1, 7, 10, 4, 14, 15, 12, 0, 13, 5],

@@ -6,6 +6,8 @@
 //!
 //! Open results: what a script reads as.
 
+#![tactic(auto)]
+
 pub mod fault;
 pub mod order;
 pub mod reading;

@@ -1,5 +1,7 @@
 //! Tests of reading a script.
 
+#![tactic(auto)]
+
 #[cfg(test)]
 mod tests {
     use scripts::fault::{LineFault, ScriptFault};

@@ -4,6 +4,8 @@
 //! The file is what `packing::pack` is proved to make. How the list is read, and what is printed, is
 //! tested and not proved.
 
+#![tactic(auto)]
+
 mod line;
 mod said;
 

@@ -7,6 +7,8 @@
 //!
 //! Open results: none.
 
+#![tactic(auto)]
+
 mod entry;
 mod fields;
 pub mod file;

@@ -1,5 +1,7 @@
 //! Tests of listing download files and of sealing, at every limit.
 
+#![tactic(auto)]
+
 ghost use Rattle.std.specs.Prelude.{◌<◌};
 
 #[cfg(test)]

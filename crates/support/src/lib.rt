@@ -5,6 +5,8 @@
 //!
 //! Open results: none.
 
+#![tactic(auto)]
+
 ghost use Rattle.std.specs.Prelude.{◌≡◌, length};
 ghost use Rattle.refusals.specs.Codes.{answer};
 ghost use Rattle.support.specs.Reports.{report_of, key_answer, pages_answer, support_answer};

@@ -1,5 +1,7 @@
 //! Tests of the answer to a support call, at zeros for table and keys.
 
+#![tactic(auto)]
+
 #[cfg(test)]
 mod tests {
     use std::process::Abort;

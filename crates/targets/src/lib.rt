@@ -9,6 +9,8 @@
 //!
 //! Open results: none.
 
+#![tactic(auto)]
+
 mod calls;
 mod judging;
 pub mod kinds;

@@ -1,6 +1,8 @@
 //! Tests of targets: what the calls do, every refusal in its order, and the edges of the limits, for
 //! both kinds.
 
+#![tactic(auto)]
+
 #[cfg(test)]
 mod tests {
     use refusals::Refusal;

@@ -11,6 +11,8 @@
 //!
 //! Open results: the bytes of an answer's block past its count.
 
+#![tactic(auto)]
+
 mod answers;
 pub mod call;
 mod perform;

@@ -4,6 +4,8 @@
 //!
 //! Open results: none.
 
+#![tactic(auto)]
+
 ghost use Rattle.std.specs.Prelude.{◌≡◌, Ok};
 ghost use Rattle.refusals.specs.Codes.{answer};
 ghost use Rattle.worked.specs.Values.{WorkedValues};
