@@ -11,7 +11,7 @@ unfolding registers
 returns c =
     let block = c.args.block.now in
     let made : ℕ → ℕ → Registers = λ a b. record { n1 = a; n2 = b } in
-    let low : c.from-le-bytes.result ≡ word (take 4 block) = c.from-le-bytes.ensures ∙ word_at block 0 (omega arith) in
-    let high : c.from-le-bytes-2.result ≡ word (drop 4 block) =
-    c.from-le-bytes-2.ensures ∙ (word_at block 4 (omega arith) ∙ ap word (take_all 4 (drop 4 block) (simp length-drop (omega arith)))) in
-    record { value = ap₂ made low high; bytes = bytes-from block (λ i. omega (arith, c.type-inv.block i)) }
+    let low : c.from_le_bytes.result ≡ word (take 4 block) = c.from_le_bytes.ensures ∙ word_at block 0 (omega arith) in
+    let high : c.from_le_bytes-2.result ≡ word (drop 4 block) =
+    c.from_le_bytes-2.ensures ∙ (word_at block 4 (omega arith) ∙ ap word (take_all 4 (drop 4 block) (simp length-drop (omega arith)))) in
+    record { value = ap₂ made low high; bytes = bytes-from block (λ i. omega (arith, c.type_inv.block i)) }

@@ -7,5 +7,5 @@ use Rattle.gost.proofs.cipher.write.Goals as goal
 pub returns : goal.returns
 unfolding block_of
 returns c =
-    c.copy-from-slice.ensures.after
-    ∙ ap₂ (λ (u v : List ℕ). spelled 4 0 u ++ spelled 4 0 v) (c.to-le-bytes.ensures ∙ word-written c.args.s.n1) (c.to-le-bytes-2.ensures ∙ word-written c.args.s.n2)
+    c.copy_from_slice.ensures.after
+    ∙ ap₂ (λ (u v : List ℕ). spelled 4 0 u ++ spelled 4 0 v) (c.to_le_bytes.ensures ∙ word-written c.args.s.n1) (c.to_le_bytes-2.ensures ∙ word-written c.args.s.n2)

@@ -11,10 +11,10 @@ loop-i-preserved c =
     let key = c.args.key.now in
     let s : suc i ≡ i + 1 = omega arith in
     let m : words (i + 1) key ≡ words i key ++ word (take 4 (drop (4 * i) key)) ∷ [] = ap (λ (n : ℕ). words n key) (sym s) ∙ words_more i key in
-    let y : c.from-le-bytes.result ≡ word (take 4 (drop (4 * i) key)) = c.from-le-bytes.ensures ∙ word_at key (4 * i) (omega arith) in (
-      take_more_set c.loop-i.words i c.from-le-bytes.result (omega arith)
+    let y : c.from_le_bytes.result ≡ word (take 4 (drop (4 * i) key)) = c.from_le_bytes.ensures ∙ word_at key (4 * i) (omega arith) in (
+      take_more_set c.loop-i.words i c.from_le_bytes.result (omega arith)
           ∙ (ap₂ (λ (xs : List ℕ) (n : ℕ). xs ++ n ∷ []) c.loop-i.invariant.0 y ∙ sym m),
-      length-set c.loop-i.words i c.from-le-bytes.result ∙ c.loop-i.invariant.1,
+      length-set c.loop-i.words i c.from_le_bytes.result ∙ c.loop-i.invariant.1,
     )
 
 pub returns : goal.returns

@@ -3,4 +3,4 @@ use Rattle.gost.proofs.Nibbles.{rotated_or}
 use Rattle.gost.proofs.rounds.rotate.Goals as goal
 
 pub returns : goal.returns
-returns c = c.rotate-left.ensures ∙ rotated_or c.args.v (search rules)
+returns c = c.rotate_left.ensures ∙ rotated_or c.args.v (search rules)
