@@ -91,9 +91,9 @@ xored_swap (x ∷ xs) ys [] h = absurd (omega arith)
 xored_swap (x ∷ xs) [] (z ∷ zs) h = refl
 xored_swap (x ∷ xs) (y ∷ ys) (z ∷ zs) h = ap₂ cons (xor_swap x y z) (xored_swap xs ys zs (omega arith))
 
-pub get_d_xored : (xs ys : List ℕ) (p : ℕ) → length xs ≡ length ys → get_or (xored xs ys) p 0 ≡ bit_xor (get_or xs p 0) (get_or ys p 0)
-get_d_xored [] [] p h = refl
-get_d_xored [] (y ∷ ys) p h = absurd (omega arith)
-get_d_xored (x ∷ xs) [] p h = absurd (omega arith)
-get_d_xored (x ∷ xs) (y ∷ ys) zero h = refl
-get_d_xored (x ∷ xs) (y ∷ ys) (suc p) h = get_d_xored xs ys p (omega arith)
+pub get_or-xored : (xs ys : List ℕ) (p : ℕ) → length xs ≡ length ys → get_or (xored xs ys) p 0 ≡ bit_xor (get_or xs p 0) (get_or ys p 0)
+get_or-xored [] [] p h = refl
+get_or-xored [] (y ∷ ys) p h = absurd (omega arith)
+get_or-xored (x ∷ xs) [] p h = absurd (omega arith)
+get_or-xored (x ∷ xs) (y ∷ ys) zero h = refl
+get_or-xored (x ∷ xs) (y ∷ ys) (suc p) h = get_or-xored xs ys p (omega arith)

@@ -2,7 +2,7 @@
 use Rattle.std.proofs.Common.{◌≡◌, ℕ, zero, suc, ◌+◌, ◌*◌, ◌/◌, ◌%◌, ◌^◌, ◌<◌, ◌≤◌, ◌≢◌, ◌⊎◌, List, [], ◌∷◌, length, get_or, sym, refl, ap, ◌∙◌, subst, ap₂, inl, inr, arith}
 use lib.Bits.{bit_xor, xor_assoc, xor_self, xor_zero_l, xor_zero_r, xor_shr, xor_mod}
 use Rattle.blocks.specs.Bytes.{Bytes, Block, block, xored}
-use Rattle.blocks.proofs.Xors.{xored-length, xored-undo, xored-back, xored_swap, get_d_xored}
+use Rattle.blocks.proofs.Xors.{xored-length, xored-undo, xored-back, xored_swap, get_or-xored}
 use Rattle.modes.specs.declared.mode.Mode.{Mode}
 use Rattle.modes.specs.declared.mode.Mode.TheVariants.{Codebook, Counter, Feedback}
 use Rattle.modes.specs.Modes.{Chaining, size, gamma, before, fed, cipher_by, plain_by, Depends, cipher_block, plain_block, block_count}
@@ -10,19 +10,19 @@ use Rattle.modes.specs.Laws.{Sound, Text, bit, SameBits, InPlace, Reach, Reaches
 use Rattle.modes.proofs.Joined.{whole-at, whole-all}
 use Rattle.modes.proofs.Undoing.{plain_same, fed-is, some_size, fed-block, sent-long, plain-sent}
 
-bit_xor : (k x y : ℕ) → bit k (bit_xor x y) ≡ bit_xor (bit k x) (bit k y)
-bit_xor k x y = ap (λ (z : ℕ). z % 2) (xor_shr x y k) ∙ xor_mod (x / 2 ^ k) (y / 2 ^ k) 1
+bit-bit_xor : (k x y : ℕ) → bit k (bit_xor x y) ≡ bit_xor (bit k x) (bit k y)
+bit-bit_xor k x y = ap (λ (z : ℕ). z % 2) (xor_shr x y k) ∙ xor_mod (x / 2 ^ k) (y / 2 ^ k) 1
 
 -- where the xors are the same, the bits are alike or not together
 bits-from : (k x y u v : ℕ) → bit_xor x y ≡ bit_xor u v → bit k x ≡ bit k y → bit k u ≡ bit k v
 bits-from k x y u v e h =
-    let z : bit_xor (bit k u) (bit k v) ≡ 0 = sym (bit_xor k u v) ∙ (ap (bit k) (sym e) ∙ (bit_xor k x y ∙ (ap (λ (q : ℕ). bit_xor q (bit k y)) h ∙ xor_self (bit k y)))) in
+    let z : bit_xor (bit k u) (bit k v) ≡ 0 = sym (bit-bit_xor k u v) ∙ (ap (bit k) (sym e) ∙ (bit-bit_xor k x y ∙ (ap (λ (q : ℕ). bit_xor q (bit k y)) h ∙ xor_self (bit k y)))) in
     let undo : bit_xor (bit_xor (bit k u) (bit k v)) (bit k v) ≡ bit k u = xor_assoc (bit k u) (bit k v) (bit k v) ∙ (ap (bit_xor (bit k u)) (xor_self (bit k v)) ∙ xor_zero_r (bit k u)) in
     sym undo ∙ (ap (λ (q : ℕ). bit_xor q (bit k v)) z ∙ xor_zero_l (bit k v))
 
 same_bit : (a b c d : List ℕ) → length a ≡ length b → length c ≡ length d → xored a b ≡ xored c d → (p k : ℕ) → bit k (get_or a p 0) ≡ bit k (get_or b p 0) → bit k (get_or c p 0) ≡ bit k (get_or d p 0)
 same_bit a b c d l m e p k h =
-    bits-from k (get_or a p 0) (get_or b p 0) (get_or c p 0) (get_or d p 0) (sym (get_d_xored a b p l) ∙ (ap (λ (x : List ℕ). get_or x p 0) e ∙ get_d_xored c d p m)) h
+    bits-from k (get_or a p 0) (get_or b p 0) (get_or c p 0) (get_or d p 0) (sym (get_or-xored a b p l) ∙ (ap (λ (x : List ℕ). get_or x p 0) e ∙ get_or-xored c d p m)) h
 
 -- what is masked by one mask differs as what it was made from
 same_bits : (got mask plain sent : List ℕ) → length got ≡ length plain → sent ≡ xored plain mask → SameBits (xored got mask) plain got sent

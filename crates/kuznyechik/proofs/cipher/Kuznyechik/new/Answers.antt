@@ -6,4 +6,4 @@ pub loop-key-preserved : goal.loop-key-preserved
 loop-key-preserved c = below_more _ _ c.loop-key.invariant c.hold-bytes.ensures
 
 pub invariant-of-result : goal.invariant-of-result
-invariant-of-result c = (bytes-at c.args.keys.now (λ i h. c.loop-key.invariant i (omega arith)), tt)
+invariant-of-result c = record { bytes = bytes-at c.args.keys.now (λ i h. c.loop-key.invariant i (omega arith)) }
