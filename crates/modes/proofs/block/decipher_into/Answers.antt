@@ -10,17 +10,17 @@ use Rattle.modes.proofs.Undoing.{some_size}
 use Rattle.modes.proofs.Plain.{plain_step_lem, fits-judged, cut-is}
 use Rattle.modes.proofs.block.decipher_into.Goals as goal
 
-pub slice-bounds-copy-from-slice-end : goal.slice-bounds-copy-from-slice-end
-slice-bounds-copy-from-slice-end g c =
+pub slice_bounds-copy_from_slice-end : goal.slice_bounds-copy_from_slice-end
+slice_bounds-copy_from_slice-end g c =
     let h : length c.args.pad.now * c.args.i + length c.args.part.now ≤ length c.args.body.now
     = omega (arith, c.requires.part, length-block (length c.args.pad.now) c.args.i c.args.body.now) in
     search rules
 
-pub first-counters-from-requires : goal.first-counters-from-requires
-first-counters-from-requires g c =
+pub first_counters-from-requires : goal.first_counters-from-requires
+first_counters-from-requires g c =
     let map = g.C.BlockCipher.map c.args.cipher.now in
-    let kept : length c.write-sync.new.pad ≡ map.size = c.write-sync.auto.pad ∙ c.requires.size in
-    let e : c.write-sync.new.pad ≡ sync_bytes map.size c.args.sync = c.write-sync.ensures ∙ ap (λ (m : ℕ). sync_bytes m c.args.sync) c.requires.size in
+    let kept : length c.write_sync.new.pad ≡ map.size = c.write_sync.auto.pad ∙ c.requires.size in
+    let e : c.write_sync.new.pad ≡ sync_bytes map.size c.args.sync = c.write_sync.ensures ∙ ap (λ (m : ℕ). sync_bytes m c.args.sync) c.requires.size in
     let b = subst (Block map.size) (sym e) (sync-block map.size c.args.sync c.requires.lawful.sized) in
     record {
       size = kept;
@@ -28,18 +28,18 @@ first-counters-from-requires g c =
       bytes = ((refl, b.1), c.requires.lawful);
     }
 
-pub decipher-one-requires : goal.decipher-one-requires
-decipher-one-requires g c =
+pub decipher_one-requires : goal.decipher_one-requires
+decipher_one-requires g c =
     let map = g.C.BlockCipher.map c.args.cipher.now in
-    let kept : length c.feed.new.pad ≡ map.size = c.feed.auto.pad ∙ (c.first-counters-from.auto.pad ∙ (c.write-sync.auto.pad ∙ c.requires.size)) in
+    let kept : length c.feed.new.pad ≡ map.size = c.feed.auto.pad ∙ (c.first_counters-from.auto.pad ∙ (c.write_sync.auto.pad ∙ c.requires.size)) in
     let body = c.args.body.now in
     let inside : map.size * c.args.i < length body = subst (λ (m : ℕ). m * c.args.i < length body) c.requires.size c.requires.inside in
     let f = fits-judged c.args.mode map.size c.args.sync body c.args.i (some_size map c.requires.lawful) c.requires.judged inside in
-    let long : length c.copy-from-slice.new.self ≡ length (block map.size c.args.i body)
-    = c.copy-from-slice.ensures.len ∙ (c.requires.part ∙ ap (λ (m : ℕ). length (block m c.args.i body)) c.requires.size) in
+    let long : length c.copy_from_slice.new.self ≡ length (block map.size c.args.i body)
+    = c.copy_from_slice.ensures.len ∙ (c.requires.part ∙ ap (λ (m : ℕ). length (block m c.args.i body)) c.requires.size) in
     record {
       size = kept;
-      fits = subst (λ (m : ℕ). Fits c.args.mode m (length c.copy-from-slice.new.self)) (sym kept) (subst (λ (k : ℕ). Fits c.args.mode map.size k) (sym long) f);
+      fits = subst (λ (m : ℕ). Fits c.args.mode m (length c.copy_from_slice.new.self)) (sym kept) (subst (λ (k : ℕ). Fits c.args.mode map.size k) (sym long) f);
     }
 
 pub returns : goal.returns
@@ -49,14 +49,14 @@ returns g c =
     let i = c.args.i in
     let n : ℕ = length c.args.pad.now in
     let S : List ℕ = sync_bytes map.size c.args.sync in
-    let sync-is : c.write-sync.new.pad ≡ S = c.write-sync.ensures ∙ ap (λ (m : ℕ). sync_bytes m c.args.sync) c.requires.size in
-    let from : FromSync c.args.mode (map.enciphered S) c.first-counters-from.result.third c.first-counters-from.result.fourth
-    = subst (λ (p : List ℕ). FromSync c.args.mode (map.enciphered p) c.first-counters-from.result.third c.first-counters-from.result.fourth) sync-is c.first-counters-from.ensures.counters in
-    let long : length c.first-counters-from.new.pad ≡ map.size = c.first-counters-from.auto.pad ∙ (c.write-sync.auto.pad ∙ c.requires.size) in
+    let sync-is : c.write_sync.new.pad ≡ S = c.write_sync.ensures ∙ ap (λ (m : ℕ). sync_bytes m c.args.sync) c.requires.size in
+    let from : FromSync c.args.mode (map.enciphered S) c.first_counters-from.result.third c.first_counters-from.result.fourth
+    = subst (λ (p : List ℕ). FromSync c.args.mode (map.enciphered p) c.first_counters-from.result.third c.first_counters-from.result.fourth) sync-is c.first_counters-from.ensures.counters in
+    let long : length c.first_counters-from.new.pad ≡ map.size = c.first_counters-from.auto.pad ∙ (c.write_sync.auto.pad ∙ c.requires.size) in
     let pad : c.args.mode ≡ Feedback → c.feed.new.pad ≡ before S (λ k. block map.size k body) i
-    = λ q. c.feed.ensures q ∙ ap₂ (λ (p : List ℕ) (m : ℕ). before p (λ k. block m k body) i) (c.first-counters-from.ensures.pad q ∙ sync-is) long in
-    let part : c.copy-from-slice.new.self ≡ block map.size i body
-    = c.copy-from-slice.ensures.after ∙ (cut-is n i (length c.args.part.now) body c.requires.part ∙ ap (λ (m : ℕ). block m i body) c.requires.size) in
-    c.decipher-one.ensures
-    ∙ (ap (plain_step c.args.mode map c.first-counters-from.result.third c.first-counters-from.result.fourth i c.feed.new.pad) part
-    ∙ plain_step_lem c.args.mode map S c.feed.new.pad (λ k. block map.size k body) c.first-counters-from.result.third c.first-counters-from.result.fourth i from pad)
+    = λ q. c.feed.ensures q ∙ ap₂ (λ (p : List ℕ) (m : ℕ). before p (λ k. block m k body) i) (c.first_counters-from.ensures.pad q ∙ sync-is) long in
+    let part : c.copy_from_slice.new.self ≡ block map.size i body
+    = c.copy_from_slice.ensures.after ∙ (cut-is n i (length c.args.part.now) body c.requires.part ∙ ap (λ (m : ℕ). block m i body) c.requires.size) in
+    c.decipher_one.ensures
+    ∙ (ap (plain_step c.args.mode map c.first_counters-from.result.third c.first_counters-from.result.fourth i c.feed.new.pad) part
+    ∙ plain_step_lem c.args.mode map S c.feed.new.pad (λ k. block map.size k body) c.first_counters-from.result.third c.first_counters-from.result.fourth i from pad)

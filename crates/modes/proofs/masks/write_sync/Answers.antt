@@ -10,7 +10,7 @@ returns-else-pad-eq8 c =
     let s = c.in-Some.field-0 in
     let short : length c.args.pad.now ≡ 8 → ⊥ = c.if-pad-eq8.false in
     let long : length c.args.pad.now ≡ 16 = ⊎_elim (λ e. absurd (short e)) (λ e. e) c.requires in
-    let both : c.copy-from-slice-else-pad-eq8.new.self ≡ bytes_of 8 s.first ++ bytes_of 8 s.second =
-    c.copy-from-slice-else-pad-eq8.ensures.after
-    ∙ ap₂ (λ (u v : List ℕ). spelled 8 0 u ++ spelled 8 0 v) (c.to-le-bytes.ensures ∙ long-written s.first) (c.to-le-bytes-2.ensures ∙ long-written s.second) in
+    let both : c.copy_from_slice-else-pad-eq8.new.self ≡ bytes_of 8 s.first ++ bytes_of 8 s.second =
+    c.copy_from_slice-else-pad-eq8.ensures.after
+    ∙ ap₂ (λ (u v : List ℕ). spelled 8 0 u ++ spelled 8 0 v) (c.to_le_bytes.ensures ∙ long-written s.first) (c.to_le_bytes-2.ensures ∙ long-written s.second) in
     both ∙ sym (ap₂ sync_bytes long c.in-Some.is)

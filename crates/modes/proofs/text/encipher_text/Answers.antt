@@ -11,9 +11,9 @@ returns g c =
     let map = g.C.BlockCipher.map c.args.cipher.now in
     let text = c.args.text.now in
     let ok : Ok tt ≡ mode_answer map.size c.args.mode c.args.sync (length text)
-    = c.in-ok-judge.ensures ∙ ap₂ (λ (n bytes : ℕ). mode_answer n c.args.mode c.args.sync bytes) c.block-length-n.ensures.value c.byte-count.ensures.value in
+    = c.in_ok-judge.ensures ∙ ap₂ (λ (n bytes : ℕ). mode_answer n c.args.mode c.args.sync bytes) c.block_length-n.ensures.value c.byte_count.ensures.value in
     record {
       answer = ok;
-      text = c.encipher-judged.ensures ∙ ap (λ (r : Result (Unit {0}) Code). unless r text (enciphered (chaining map c.args.mode c.args.sync) text)) ok;
-      undo = λ h. undo (chaining map c.args.mode c.args.sync) (length text) (judged-sound map c.args.mode c.args.sync (length text) c.block-length-n.ensures.lawful h);
+      text = c.encipher_judged.ensures ∙ ap (λ (r : Result (Unit {0}) Code). unless r text (enciphered (chaining map c.args.mode c.args.sync) text)) ok;
+      undo = λ h. undo (chaining map c.args.mode c.args.sync) (length text) (judged-sound map c.args.mode c.args.sync (length text) c.block_length-n.ensures.lawful h);
     }
