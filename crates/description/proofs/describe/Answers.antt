@@ -26,15 +26,15 @@ returns-in-Err c =
 pub loop-scanner-smaller : goal.loop-scanner-smaller
 loop-scanner-smaller c =
     let some = eqb-false (length (rest_of c.loop-scanner.scanner)) 0 (sym c.loop-scanner-test.ensures) in
-    omega (arith, after_less (rest_of c.loop-scanner.scanner) (omega arith), ap length c.in-default.ensures.ended.0)
+    omega (arith, after_less (rest_of c.loop-scanner.scanner) (omega arith), ap length c.in_default.ensures.ended.0)
 
 pub loop-scanner-preserved : goal.loop-scanner-preserved
 loop-scanner-preserved c =
     let s = c.loop-scanner.scanner in
-    let t = c.read-line.new.scanner in
-    let ended = c.in-default.ensures.ended in
+    let t = c.read_line.new.scanner in
+    let ended = c.in_default.ensures.ended in
     c.loop-scanner.invariant
-    ∙ taken_line (line_at s) (line_at t) (parts_of c.loop-scanner.draft) (parts_of c.read-line.new.draft) (rest_of s) (rest_of t) (sym c.in-default.ensures.value) ended.0 ended.1
+    ∙ taken_line (line_at s) (line_at t) (parts_of c.loop-scanner.draft) (parts_of c.read_line.new.draft) (rest_of s) (rest_of t) (sym c.in_default.ensures.value) ended.0 ended.1
 
 pub returns : goal.returns
 returns c =

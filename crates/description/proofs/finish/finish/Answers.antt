@@ -2,25 +2,25 @@ use Rattle.std.proofs.Common.{rules}
 use Rattle.description.specs.Judge.{completed}
 use Rattle.description.proofs.finish.finish.Goals as goal
 
-pub returns-in-default : goal.returns-in-default
+pub returns-in_default : goal.returns-in_default
 unfolding completed
-returns-in-default c = search rules
+returns-in_default c = search rules
 
-pub returns-in-default-page-length : goal.returns-in-default-page-length
+pub returns-in_default-page_length : goal.returns-in_default-page_length
 unfolding completed
-returns-in-default-page-length c = search rules
+returns-in_default-page_length c = search rules
 
-pub returns-in-default-page-count : goal.returns-in-default-page-count
+pub returns-in_default-page_count : goal.returns-in_default-page_count
 unfolding completed
-returns-in-default-page-count c = search rules
+returns-in_default-page_count c = search rules
 
-pub returns-in-default-fill : goal.returns-in-default-fill
+pub returns-in_default-fill : goal.returns-in_default-fill
 unfolding completed
-returns-in-default-fill c = search rules
+returns-in_default-fill c = search rules
 
-pub returns-then-not-all-given : goal.returns-then-not-all-given
+pub returns-then-not-all_given : goal.returns-then-not-all_given
 unfolding completed
-returns-then-not-all-given c = search rules
+returns-then-not-all_given c = search rules
 
 pub returns : goal.returns
 unfolding completed

@@ -8,28 +8,28 @@ use Rattle.description.proofs.reading.box_row.Goals as goal
 pub loop-place-init : goal.loop-place-init
 loop-place-init c = (refl, refl, refl, refl, refl)
 
-pub returns-in-default-next-word : goal.returns-in-default-next-word
-returns-in-default-next-word c =
+pub returns-in_default-next_word : goal.returns-in_default-next_word
+returns-in_default-next_word c =
     let ns = take c.loop-place.place c.loop-place.numbers in
     let short : length ns < 16 = omega (arith, length-take-le c.loop-place.place c.loop-place.numbers (omega arith)) in
     let e = ap all_numbers c.in-Number.ensures.0 ∙ ap (added c.in-Number.row) c.loop-place.invariant.2 in
-    subst NoRow (sym e) (stopped c.next-word-in-loop-place.result _ _ _ _ c.in-Number.row ns c.next-word-in-loop-place.ensures c.in-default-next-word.not-Number short)
+    subst NoRow (sym e) (stopped c.next_word-in-loop-place.result _ _ _ _ c.in-Number.row ns c.next_word-in-loop-place.ensures c.in_default-next_word.not-Number short)
 
 pub returns-then-n-gt-LARGEST : goal.returns-then-n-gt-LARGEST
 returns-then-n-gt-LARGEST c =
     let ns = take c.loop-place.place c.loop-place.numbers in
     let e =
     ap all_numbers c.in-Number.ensures.0
-    ∙ ap (added c.in-Number.row) (c.loop-place.invariant.2 ∙ ap (λ ts. prefixed ns (all_numbers ts)) c.in-Number-next-word.ensures.0) in
-    subst NoRow (sym e) (too_wide c.in-Number.row ns c.in-Number-next-word.n _ c.if-n-gt-LARGEST.true)
+    ∙ ap (added c.in-Number.row) (c.loop-place.invariant.2 ∙ ap (λ ts. prefixed ns (all_numbers ts)) c.in-Number-next_word.ensures.0) in
+    subst NoRow (sym e) (too_wide c.in-Number.row ns c.in-Number-next_word.n _ c.if-n-gt-LARGEST.true)
 
 pub loop-place-preserved : goal.loop-place-preserved
 loop-place-preserved c =
     let i = c.loop-place.place in
     let ns = take i c.loop-place.numbers in
-    let n = c.in-Number-next-word.n in
+    let n = c.in-Number-next_word.n in
     let inv = c.loop-place.invariant in
-    let next = c.in-Number-next-word.ensures in
+    let next = c.in-Number-next_word.ensures in
     let more = take_more_set c.loop-place.numbers i n (omega arith) in (
       length-set c.loop-place.numbers i n ∙ inv.0,
       rw more (narrow_more ns n inv.1 (omega arith)),
@@ -38,12 +38,12 @@ loop-place-preserved c =
       next.2 ∙ inv.4,
     )
 
-pub returns-in-default-next-word-2 : goal.returns-in-default-next-word-2
-returns-in-default-next-word-2 c =
+pub returns-in_default-next_word-2 : goal.returns-in_default-next_word-2
+returns-in_default-next_word-2 c =
     let ns = take c.loop-place.place c.loop-place.numbers in
     let full : length ns ≡ 16 = omega (arith, length-take-le c.loop-place.place c.loop-place.numbers (omega arith)) in
     let e = ap all_numbers c.in-Number.ensures.0 ∙ ap (added c.in-Number.row) c.loop-place.invariant.2 in
-    subst NoRow (sym e) (too_many c.next-word-2.result _ _ _ _ c.in-Number.row ns c.next-word-2.ensures c.in-default-next-word-2.not-EndOfLine full)
+    subst NoRow (sym e) (too_many c.next_word-2.result _ _ _ _ c.in-Number.row ns c.next_word-2.ensures c.in_default-next_word-2.not-EndOfLine full)
 
 pub returns : goal.returns
 returns c =

@@ -12,8 +12,8 @@ returns-in-EndOfLine c =
 pub returns-in-Keyword : goal.returns-in-Keyword
 returns-in-Keyword c =
     let first = c.in-Keyword.ensures in
-    record { value = c.keyword-line.ensures.value ∙ sym (ap (judged_line (parts_of c.args.draft.now)) first.0); ended = on_line c.keyword-line.result c.args.scanner.now c.next-word.new.self c.keyword-line.new.scanner first.1 first.2 c.keyword-line.ensures.ended }
+    record { value = c.keyword_line.ensures.value ∙ sym (ap (judged_line (parts_of c.args.draft.now)) first.0); ended = on_line c.keyword_line.result c.args.scanner.now c.next_word.new.self c.keyword_line.new.scanner first.1 first.2 c.keyword_line.ensures.ended }
 
-pub returns-in-default : goal.returns-in-default
-returns-in-default c =
-    record { value = sym (no_keyword c.next-word.result _ _ _ _ _ c.next-word.ensures c.in-default.not-Keyword c.in-default.not-EndOfLine); ended = tt }
+pub returns-in_default : goal.returns-in_default
+returns-in_default c =
+    record { value = sym (no_keyword c.next_word.result _ _ _ _ _ c.next_word.ensures c.in_default.not-Keyword c.in_default.not-EndOfLine); ended = tt }

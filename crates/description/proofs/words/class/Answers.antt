@@ -9,9 +9,9 @@ returns-in-Some c = ap (λ o. some (by_keyword c.args.word.now o)) c.in-Some.ens
 pub returns-in-Some-number : goal.returns-in-Some-number
 returns-in-Some-number c =
     let word = c.args.word.now in
-    ap (λ o. some (by_number word o)) c.in-Some-number.ensures ∙ ap (λ o. some (by_keyword word o)) c.in-default.ensures
+    ap (λ o. some (by_number word o)) c.in-Some-number.ensures ∙ ap (λ o. some (by_keyword word o)) c.in_default.ensures
 
 pub returns-in-None : goal.returns-in-None
 returns-in-None c =
     let word = c.args.word.now in
-    ap (λ o. some (by_number word o)) c.in-None.ensures ∙ ap (λ o. some (by_keyword word o)) c.in-default.ensures
+    ap (λ o. some (by_number word o)) c.in-None.ensures ∙ ap (λ o. some (by_keyword word o)) c.in_default.ensures

@@ -36,89 +36,89 @@ pub returns-in-102-2 : goal.returns-in-102-2
 returns-in-102-2 c =
     sym (ap keyword_of (text_from_reads c.args.word.now (codes "flash") (omega (arith, tests, ltb-false, leb-false)) (omega (arith, tests, ltb-false, leb-false), (omega (arith, tests, ltb-false, leb-false), (omega (arith, tests, ltb-false, leb-false), (omega (arith, tests, ltb-false, leb-false), (omega (arith, tests, ltb-false, leb-false), tt)))))))
 
-pub returns-in-default : goal.returns-in-default
-returns-in-default c = unknown c.args.word.now (λ known. omega (arith, tests, ltb-false, leb-false))
+pub returns-in_default : goal.returns-in_default
+returns-in_default c = unknown c.args.word.now (λ known. omega (arith, tests, ltb-false, leb-false))
 
-pub returns-in-default·2 : goal.returns-in-default·2
-returns-in-default·2 c = unknown c.args.word.now (λ known. omega (arith, tests, ltb-false, leb-false))
+pub returns-in_default-2 : goal.returns-in_default-2
+returns-in_default-2 c = unknown c.args.word.now (λ known. omega (arith, tests, ltb-false, leb-false))
 
-pub returns-in-default·3 : goal.returns-in-default·3
-returns-in-default·3 c = unknown c.args.word.now (λ known. omega (arith, tests, ltb-false, leb-false))
+pub returns-in_default-3 : goal.returns-in_default-3
+returns-in_default-3 c = unknown c.args.word.now (λ known. omega (arith, tests, ltb-false, leb-false))
 
-pub returns-in-default·4 : goal.returns-in-default·4
-returns-in-default·4 c = unknown c.args.word.now (λ known. omega (arith, tests, ltb-false, leb-false))
+pub returns-in_default-4 : goal.returns-in_default-4
+returns-in_default-4 c = unknown c.args.word.now (λ known. omega (arith, tests, ltb-false, leb-false))
 
-pub returns-in-default·5 : goal.returns-in-default·5
-returns-in-default·5 c = unknown c.args.word.now (λ known. omega (arith, tests, ltb-false, leb-false))
+pub returns-in_default-5 : goal.returns-in_default-5
+returns-in_default-5 c = unknown c.args.word.now (λ known. omega (arith, tests, ltb-false, leb-false))
 
-pub returns-in-default·6 : goal.returns-in-default·6
-returns-in-default·6 c = unknown c.args.word.now (λ known. omega (arith, tests, ltb-false, leb-false))
+pub returns-in_default-6 : goal.returns-in_default-6
+returns-in_default-6 c = unknown c.args.word.now (λ known. omega (arith, tests, ltb-false, leb-false))
 
-pub returns-in-default·7 : goal.returns-in-default·7
-returns-in-default·7 c = unknown c.args.word.now (λ known. omega (arith, tests, ltb-false, leb-false))
+pub returns-in_default-7 : goal.returns-in_default-7
+returns-in_default-7 c = unknown c.args.word.now (λ known. omega (arith, tests, ltb-false, leb-false))
 
-pub returns-in-default·8 : goal.returns-in-default·8
-returns-in-default·8 c = unknown c.args.word.now (λ known. omega (arith, tests, ltb-false, leb-false))
+pub returns-in_default-8 : goal.returns-in_default-8
+returns-in_default-8 c = unknown c.args.word.now (λ known. omega (arith, tests, ltb-false, leb-false))
 
-pub returns-in-default·9 : goal.returns-in-default·9
-returns-in-default·9 c = unknown c.args.word.now (λ known. omega (arith, tests, ltb-false, leb-false))
+pub returns-in_default-9 : goal.returns-in_default-9
+returns-in_default-9 c = unknown c.args.word.now (λ known. omega (arith, tests, ltb-false, leb-false))
 
-pub returns-in-default·10 : goal.returns-in-default·10
-returns-in-default·10 c = unknown c.args.word.now (λ known. omega (arith, tests, ltb-false, leb-false))
+pub returns-in_default-10 : goal.returns-in_default-10
+returns-in_default-10 c = unknown c.args.word.now (λ known. omega (arith, tests, ltb-false, leb-false))
 
-pub returns-in-default·11 : goal.returns-in-default·11
-returns-in-default·11 c = unknown c.args.word.now (λ known. omega (arith, tests, ltb-false, leb-false))
+pub returns-in_default-11 : goal.returns-in_default-11
+returns-in_default-11 c = unknown c.args.word.now (λ known. omega (arith, tests, ltb-false, leb-false))
 
-pub returns-in-default·12 : goal.returns-in-default·12
-returns-in-default·12 c = unknown c.args.word.now (λ known. omega (arith, tests, ltb-false, leb-false))
+pub returns-in_default-12 : goal.returns-in_default-12
+returns-in_default-12 c = unknown c.args.word.now (λ known. omega (arith, tests, ltb-false, leb-false))
 
-pub returns-in-default·13 : goal.returns-in-default·13
-returns-in-default·13 c = unknown c.args.word.now (λ known. omega (arith, tests, ltb-false, leb-false))
+pub returns-in_default-13 : goal.returns-in_default-13
+returns-in_default-13 c = unknown c.args.word.now (λ known. omega (arith, tests, ltb-false, leb-false))
 
-pub returns-in-default·14 : goal.returns-in-default·14
-returns-in-default·14 c = unknown c.args.word.now (λ known. omega (arith, tests, ltb-false, leb-false))
+pub returns-in_default-14 : goal.returns-in_default-14
+returns-in_default-14 c = unknown c.args.word.now (λ known. omega (arith, tests, ltb-false, leb-false))
 
-pub returns-in-default·15 : goal.returns-in-default·15
-returns-in-default·15 c = unknown c.args.word.now (λ known. omega (arith, tests, ltb-false, leb-false))
+pub returns-in_default-15 : goal.returns-in_default-15
+returns-in_default-15 c = unknown c.args.word.now (λ known. omega (arith, tests, ltb-false, leb-false))
 
-pub returns-in-default·16 : goal.returns-in-default·16
-returns-in-default·16 c = unknown c.args.word.now (λ known. omega (arith, tests, ltb-false, leb-false))
+pub returns-in_default-16 : goal.returns-in_default-16
+returns-in_default-16 c = unknown c.args.word.now (λ known. omega (arith, tests, ltb-false, leb-false))
 
-pub returns-in-default·17 : goal.returns-in-default·17
-returns-in-default·17 c = unknown c.args.word.now (λ known. omega (arith, tests, ltb-false, leb-false))
+pub returns-in_default-17 : goal.returns-in_default-17
+returns-in_default-17 c = unknown c.args.word.now (λ known. omega (arith, tests, ltb-false, leb-false))
 
-pub returns-in-default·18 : goal.returns-in-default·18
-returns-in-default·18 c = unknown c.args.word.now (λ known. omega (arith, tests, ltb-false, leb-false))
+pub returns-in_default-18 : goal.returns-in_default-18
+returns-in_default-18 c = unknown c.args.word.now (λ known. omega (arith, tests, ltb-false, leb-false))
 
-pub returns-in-default·19 : goal.returns-in-default·19
-returns-in-default·19 c = unknown c.args.word.now (λ known. omega (arith, tests, ltb-false, leb-false))
+pub returns-in_default-19 : goal.returns-in_default-19
+returns-in_default-19 c = unknown c.args.word.now (λ known. omega (arith, tests, ltb-false, leb-false))
 
-pub returns-in-default·20 : goal.returns-in-default·20
-returns-in-default·20 c = unknown c.args.word.now (λ known. omega (arith, tests, ltb-false, leb-false))
+pub returns-in_default-20 : goal.returns-in_default-20
+returns-in_default-20 c = unknown c.args.word.now (λ known. omega (arith, tests, ltb-false, leb-false))
 
-pub returns-in-default·21 : goal.returns-in-default·21
-returns-in-default·21 c = unknown c.args.word.now (λ known. omega (arith, tests, ltb-false, leb-false))
+pub returns-in_default-21 : goal.returns-in_default-21
+returns-in_default-21 c = unknown c.args.word.now (λ known. omega (arith, tests, ltb-false, leb-false))
 
-pub returns-in-default·22 : goal.returns-in-default·22
-returns-in-default·22 c = unknown c.args.word.now (λ known. omega (arith, tests, ltb-false, leb-false))
+pub returns-in_default-22 : goal.returns-in_default-22
+returns-in_default-22 c = unknown c.args.word.now (λ known. omega (arith, tests, ltb-false, leb-false))
 
-pub returns-in-default·23 : goal.returns-in-default·23
-returns-in-default·23 c = unknown c.args.word.now (λ known. omega (arith, tests, ltb-false, leb-false))
+pub returns-in_default-23 : goal.returns-in_default-23
+returns-in_default-23 c = unknown c.args.word.now (λ known. omega (arith, tests, ltb-false, leb-false))
 
-pub returns-in-default·24 : goal.returns-in-default·24
-returns-in-default·24 c = unknown c.args.word.now (λ known. omega (arith, tests, ltb-false, leb-false))
+pub returns-in_default-24 : goal.returns-in_default-24
+returns-in_default-24 c = unknown c.args.word.now (λ known. omega (arith, tests, ltb-false, leb-false))
 
-pub returns-in-default·25 : goal.returns-in-default·25
-returns-in-default·25 c = unknown c.args.word.now (λ known. omega (arith, tests, ltb-false, leb-false))
+pub returns-in_default-25 : goal.returns-in_default-25
+returns-in_default-25 c = unknown c.args.word.now (λ known. omega (arith, tests, ltb-false, leb-false))
 
-pub returns-in-default·26 : goal.returns-in-default·26
-returns-in-default·26 c = unknown c.args.word.now (λ known. omega (arith, tests, ltb-false, leb-false))
+pub returns-in_default-26 : goal.returns-in_default-26
+returns-in_default-26 c = unknown c.args.word.now (λ known. omega (arith, tests, ltb-false, leb-false))
 
-pub returns-in-default·27 : goal.returns-in-default·27
-returns-in-default·27 c = unknown c.args.word.now (λ known. omega (arith, tests, ltb-false, leb-false))
+pub returns-in_default-27 : goal.returns-in_default-27
+returns-in_default-27 c = unknown c.args.word.now (λ known. omega (arith, tests, ltb-false, leb-false))
 
-pub returns-in-default·28 : goal.returns-in-default·28
-returns-in-default·28 c = unknown c.args.word.now (λ known. omega (arith, tests, ltb-false, leb-false))
+pub returns-in_default-28 : goal.returns-in_default-28
+returns-in_default-28 c = unknown c.args.word.now (λ known. omega (arith, tests, ltb-false, leb-false))
 
-pub returns-in-default·29 : goal.returns-in-default·29
-returns-in-default·29 c = unknown c.args.word.now (λ known. omega (arith, tests, ltb-false, leb-false))
+pub returns-in_default-29 : goal.returns-in_default-29
+returns-in_default-29 c = unknown c.args.word.now (λ known. omega (arith, tests, ltb-false, leb-false))

@@ -26,5 +26,5 @@ pub returns : goal.returns
 returns c =
     let xs = c.args.word.now in
     let at = at_drop_all (digits_after c.loop-b.n) xs c.loop-b.b-index c.loop-b-test.false in
-    let ends = number-within xs (omega (arith, eqb-false (length xs) 0 (sym c.is-empty.ensures ∙ c.if-is-empty.false))) c.if-word-gt5.false in
+    let ends = number-within xs (omega (arith, eqb-false (length xs) 0 (sym c.is_empty.ensures ∙ c.if-is_empty.false))) c.if-word-gt5.false in
     let inv = c.loop-b.invariant.1 in cc

@@ -2,5 +2,5 @@ use Rattle.std.proofs.Common.{sym, refl, ◌∙◌}
 use Rattle.description.proofs.Marks.{none_marked}
 use Rattle.description.proofs.draft.Draft.new.Goals as goal
 
-pub invariant-of-result : goal.invariant-of-result
-invariant-of-result c = ((refl, refl, λ page e. sym (none_marked 1024 page) ∙ e, (refl, refl)), tt)
+pub invariant_of-result : goal.invariant_of-result
+invariant_of-result c = ((refl, refl, λ page e. sym (none_marked 1024 page) ∙ e, (refl, refl)), tt)

@@ -3,19 +3,19 @@ use Rattle.std.proofs.lemmas.List.{take_rest}
 use Rattle.description.specs.Scan.{blank_len, word_len, rest_of, line_at, Seen, Next}
 use Rattle.description.proofs.Ahead.{line_end, word_next, drop_none}
 use Rattle.description.proofs.scanner.Scanner.next_word.Goals as goal
-use Rattle.description.proofs.scanner.Scanner.next_word.Goals.{in-default, in-len1-up}
+use Rattle.description.proofs.scanner.Scanner.next_word.Goals.{in_default, in-len1-up}
 
 pub returns-then-len-eq0 : goal.returns-then-len-eq0
 returns-then-len-eq0 c =
     let xs = c.args.self.now.rest.now in
     let r = take_rest xs c.blanks-skip.result in
     let s = c.blanks-skip.ensures.value in
-    let w = c.word-len-len.ensures.value in
+    let w = c.word_len-len.ensures.value in
     let none : word_len (drop (blank_len xs) xs) ≡ 0 = cc c.if-len-eq0.true in
     let ends = line_end xs none in
     let from = take (length xs - c.blanks-skip.result) (drop c.blanks-skip.result xs) in
     elim c.if-from-lt1.branch [
-      | in-default v ↦
+      | in_default v ↦
           let e = ap rest_of v.self-is in
           let empty : length from ≡ 0 = omega (arith, tests, ltb-false, leb-false) in
           let d = drop_none from empty in
@@ -31,10 +31,10 @@ returns c =
     let xs = c.args.self.now.rest.now in
     let r = take_rest xs c.blanks-skip.result in
     let s = c.blanks-skip.ensures.value in
-    let w = c.word-len-len.ensures.value in
+    let w = c.word_len-len.ensures.value in
     let some : word_len (drop (blank_len xs) xs) ≡ 0 → ⊥ = λ e. c.if-len-eq0.false (cc) in
     let next = word_next xs some in
-    let f = c.split-at.ensures.front in
-    let g = c.split-at.ensures.back in
-    let P : Seen → Type 0 = λ w. Next w xs c.args.self.now.line c.split-at.result.1.now c.args.self.now.line in
+    let f = c.split_at.ensures.front in
+    let g = c.split_at.ensures.back in
+    let P : Seen → Type 0 = λ w. Next w xs c.args.self.now.line c.split_at.result.1.now c.args.self.now.line in
     subst P (sym c.class.ensures) (cc, cc, cc)

@@ -11,9 +11,9 @@ together E state part after e before whole h = e ∙ (ap (λ (s : List ℕ). abs
 
 pub loop-i-preserved : goal.loop-i-preserved
 loop-i-preserved c = (
-  c.take-in.ensures.map ∙ c.loop-i.invariant.0,
-  chained_more (map_in c.args.self.now) (map_in c.loop-i.self) (state_in c.args.self.now) c.args.part.now (state_in c.loop-i.self) (state_in c.take-in.new.self)
-      c.loop-i.i c.loop-i.invariant.0 c.loop-i.invariant.1 c.take-in.ensures.state,
+  c.take_in.ensures.map ∙ c.loop-i.invariant.0,
+  chained_more (map_in c.args.self.now) (map_in c.loop-i.self) (state_in c.args.self.now) c.args.part.now (state_in c.loop-i.self) (state_in c.take_in.new.self)
+      c.loop-i.i c.loop-i.invariant.0 c.loop-i.invariant.1 c.take_in.ensures.state,
 )
 
 pub returns-then-part-ne0 : goal.returns-then-part-ne0
@@ -21,11 +21,11 @@ returns-then-part-ne0 c =
     let E = map_in c.args.self.now in
     let state = state_in c.args.self.now in
     let part = c.args.part.now in
-    let last = state_in c.take-in-then-part-ne0.new.self in
+    let last = state_in c.take_in-then-part-ne0.new.self in
     let n : c.loop-i.i ≡ length part / 8 = omega arith in
     let after : last ≡ absorbed E state part
-    = chained_rest E (map_in c.loop-i.self) state part (state_in c.loop-i.self) last (length part / 8) refl c.if-part-ne0.true c.loop-i.invariant.0 (c.loop-i.invariant.1 ∙ ap (chained E state part) n) c.take-in-then-part-ne0.ensures.state in
-    record { map = c.take-in-then-part-ne0.ensures.map ∙ c.loop-i.invariant.0; state = after; together = together E state part last after }
+    = chained_rest E (map_in c.loop-i.self) state part (state_in c.loop-i.self) last (length part / 8) refl c.if-part-ne0.true c.loop-i.invariant.0 (c.loop-i.invariant.1 ∙ ap (chained E state part) n) c.take_in-then-part-ne0.ensures.state in
+    record { map = c.take_in-then-part-ne0.ensures.map ∙ c.loop-i.invariant.0; state = after; together = together E state part last after }
 
 pub returns-else-part-ne0 : goal.returns-else-part-ne0
 returns-else-part-ne0 c =

@@ -6,5 +6,5 @@ use Rattle.imitovstavka.proofs.chain.Chain.take_in.Goals as goal
 pub returns : goal.returns
 returns c = record {
   map = refl;
-  state = c.sixteen-rounds.ensures ∙ ap (map_in c.args.self.now) (c.xor-into.ensures ∙ sym (xored-filled 8 c.args.self.now.state c.args.block.now (omega arith)));
+  state = c.sixteen_rounds.ensures ∙ ap (map_in c.args.self.now) (c.xor_into.ensures ∙ sym (xored-filled 8 c.args.self.now.state c.args.block.now (omega arith)));
 }
