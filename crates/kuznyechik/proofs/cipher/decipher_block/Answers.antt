@@ -21,4 +21,4 @@ returns c =
     let keys = c.args.keys.now in
     let block = c.args.block.now in
     let n : c.loop-i.i ≡ 0 = omega arith in
-    c.loop-i.invariant block (c.xor-into.ensures ∙ sym (deciphered-last keys 9 block (omega arith))) ∙ ap (λ (k : ℕ). deciphered (drop k keys) block) n
+    c.loop-i.invariant block (c.xor_into.ensures ∙ sym (deciphered-last keys 9 block (omega arith))) ∙ ap (λ (k : ℕ). deciphered (drop k keys) block) n

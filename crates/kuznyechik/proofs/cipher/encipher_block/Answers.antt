@@ -15,4 +15,4 @@ returns c =
     let keys = c.args.keys.now in
     let n : c.loop-i.i ≡ 9 = omega arith in
     let last = enciphered-last keys 9 c.loop-i.block (omega arith) in
-    c.xor-into.ensures ∙ (sym last ∙ (ap (λ (k : ℕ). enciphered (drop k keys) c.loop-i.block) (sym n) ∙ c.loop-i.invariant))
+    c.xor_into.ensures ∙ (sym last ∙ (ap (λ (k : ℕ). enciphered (drop k keys) c.loop-i.block) (sym n) ∙ c.loop-i.invariant))

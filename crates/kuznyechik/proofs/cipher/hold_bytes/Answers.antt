@@ -3,4 +3,4 @@ use Rattle.blocks.proofs.Words.{bytes-from}
 use Rattle.kuznyechik.proofs.cipher.hold_bytes.Goals as goal
 
 pub returns : goal.returns
-returns c = bytes-from c.args.block.now (λ i. omega (arith, c.type-inv.block i))
+returns c = bytes-from c.args.block.now (λ i. omega (arith, c.type_inv.block i))

@@ -6,7 +6,7 @@ use Rattle.kuznyechik.proofs.steps.unsubstitute.Goals as goal
 
 pub loop-i-preserved : goal.loop-i-preserved
 loop-i-preserved c =
-    over_more pi⁻¹ c.args.block.now c.loop-i.block c.loop-i.i c.put-back.result (omega arith) (omega arith) c.loop-i.invariant c.put-back.ensures
+    over_more pi⁻¹ c.args.block.now c.loop-i.block c.loop-i.i c.put_back.result (omega arith) (omega arith) c.loop-i.invariant c.put_back.ensures
 
 pub returns : goal.returns
 unfolding S⁻¹

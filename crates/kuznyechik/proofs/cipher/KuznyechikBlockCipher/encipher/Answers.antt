@@ -11,5 +11,5 @@ returns c =
     let long = c.if-block-ne16.false in
     let law = enciphered_undone keys c.args.self.now.bytes in
     let made = replaced-is 16 (enciphered keys) block long in
-    let back = replaced-is 16 (deciphered keys) (enciphered keys block) (law.stays block (long, c.hold-bytes.ensures)).0 ∙ law.back block (long, c.hold-bytes.ensures) in
+    let back = replaced-is 16 (deciphered keys) (enciphered keys block) (law.stays block (long, c.hold_bytes.ensures)).0 ∙ law.back block (long, c.hold_bytes.ensures) in
     record { answer = accepted 16 block long; block = cc; undone = cc }
