@@ -4,36 +4,36 @@ use Rattle.description.specs.Words.{keyword_of}
 use Rattle.description.proofs.Spelled.{unknown}
 use Rattle.description.proofs.words.named.Goals as goal
 
-pub returns-in-98 : goal.returns-in-98
-returns-in-98 c =
+pub returns-in-box : goal.returns-in-box
+returns-in-box c =
     sym (ap keyword_of (text_from_reads c.args.word.now (codes "box") (omega (arith, tests, ltb-false, leb-false)) (omega (arith, tests, ltb-false, leb-false), (omega (arith, tests, ltb-false, leb-false), (omega (arith, tests, ltb-false, leb-false), tt)))))
 
-pub returns-in-114 : goal.returns-in-114
-returns-in-114 c =
+pub returns-in-ram : goal.returns-in-ram
+returns-in-ram c =
     sym (ap keyword_of (text_from_reads c.args.word.now (codes "ram") (omega (arith, tests, ltb-false, leb-false)) (omega (arith, tests, ltb-false, leb-false), (omega (arith, tests, ltb-false, leb-false), (omega (arith, tests, ltb-false, leb-false), tt)))))
 
-pub returns-in-107 : goal.returns-in-107
-returns-in-107 c =
+pub returns-in-kind : goal.returns-in-kind
+returns-in-kind c =
     sym (ap keyword_of (text_from_reads c.args.word.now (codes "kind") (omega (arith, tests, ltb-false, leb-false)) (omega (arith, tests, ltb-false, leb-false), (omega (arith, tests, ltb-false, leb-false), (omega (arith, tests, ltb-false, leb-false), (omega (arith, tests, ltb-false, leb-false), tt))))))
 
-pub returns-in-112 : goal.returns-in-112
-returns-in-112 c =
+pub returns-in-page : goal.returns-in-page
+returns-in-page c =
     sym (ap keyword_of (text_from_reads c.args.word.now (codes "page") (omega (arith, tests, ltb-false, leb-false)) (omega (arith, tests, ltb-false, leb-false), (omega (arith, tests, ltb-false, leb-false), (omega (arith, tests, ltb-false, leb-false), (omega (arith, tests, ltb-false, leb-false), tt))))))
 
-pub returns-in-102 : goal.returns-in-102
-returns-in-102 c =
+pub returns-in-fill : goal.returns-in-fill
+returns-in-fill c =
     sym (ap keyword_of (text_from_reads c.args.word.now (codes "fill") (omega (arith, tests, ltb-false, leb-false)) (omega (arith, tests, ltb-false, leb-false), (omega (arith, tests, ltb-false, leb-false), (omega (arith, tests, ltb-false, leb-false), (omega (arith, tests, ltb-false, leb-false), tt))))))
 
-pub returns-in-108 : goal.returns-in-108
-returns-in-108 c =
+pub returns-in-lock : goal.returns-in-lock
+returns-in-lock c =
     sym (ap keyword_of (text_from_reads c.args.word.now (codes "lock") (omega (arith, tests, ltb-false, leb-false)) (omega (arith, tests, ltb-false, leb-false), (omega (arith, tests, ltb-false, leb-false), (omega (arith, tests, ltb-false, leb-false), (omega (arith, tests, ltb-false, leb-false), tt))))))
 
-pub returns-in-112-2 : goal.returns-in-112-2
-returns-in-112-2 c =
+pub returns-in-pages : goal.returns-in-pages
+returns-in-pages c =
     sym (ap keyword_of (text_from_reads c.args.word.now (codes "pages") (omega (arith, tests, ltb-false, leb-false)) (omega (arith, tests, ltb-false, leb-false), (omega (arith, tests, ltb-false, leb-false), (omega (arith, tests, ltb-false, leb-false), (omega (arith, tests, ltb-false, leb-false), (omega (arith, tests, ltb-false, leb-false), tt)))))))
 
-pub returns-in-102-2 : goal.returns-in-102-2
-returns-in-102-2 c =
+pub returns-in-flash : goal.returns-in-flash
+returns-in-flash c =
     sym (ap keyword_of (text_from_reads c.args.word.now (codes "flash") (omega (arith, tests, ltb-false, leb-false)) (omega (arith, tests, ltb-false, leb-false), (omega (arith, tests, ltb-false, leb-false), (omega (arith, tests, ltb-false, leb-false), (omega (arith, tests, ltb-false, leb-false), (omega (arith, tests, ltb-false, leb-false), tt)))))))
 
 pub returns-in_default : goal.returns-in_default
