@@ -6,15 +6,15 @@ use Rattle.support.proofs.report_on.Goals as goal
 
 pub returns : goal.returns
 returns c =
-    let target = c.in-ok-target.target in
+    let target = c.in_ok-target.target in
     let image = c.args.image.now in
     let n : ℕ = length image in
-    let pages = c.in-ok-image-pages.image-pages in
-    let p = c.in-ok-image-pages.ensures in
+    let pages = c.in_ok-image_pages.image_pages in
+    let p = c.in_ok-image_pages.ensures in
     let count : pages ≡ pages_for target.page_length n = (pages-counted target.page_length target.page_count n pages p).0 in
     let fits = image-fits target.page_length n (omega (arith, target.allowed.0)) in
     let blocks = blocks_are target.page_length pages target.allowed.2 in
     let more : ℕ = target.page_length * pages_for target.page_length n - n in
     let all : 8 * (pages * (target.page_length / 8)) ≡ n + more = blocks ∙ (ap (λ (k : ℕ). target.page_length * k) count ∙ omega arith) in
-    reported c.args.text.now c.args.keys.now image c.in-ok-key.key (meaning_of target) pages c.in-ok-bits.bits.bits c.in-ok-value.value c.value-with-fill-wrong.result
-    c.in-ok-target.ensures.value c.in-ok-key.ensures p c.in-ok-bits.ensures c.in-ok-value.ensures (c.value-with-fill-wrong.ensures more all)
+    reported c.args.text.now c.args.keys.now image c.in_ok-key.key (meaning_of target) pages c.in_ok-bits.bits.bits c.in_ok-value.value c.value_with_fill-wrong.result
+    c.in_ok-target.ensures.value c.in_ok-key.ensures p c.in_ok-bits.ensures c.in_ok-value.ensures (c.value_with_fill-wrong.ensures more all)

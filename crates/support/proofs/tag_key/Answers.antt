@@ -9,5 +9,5 @@ returns c =
     let keys = c.args.keys.now in
     let half : length (drop 32 keys) ≡ 32 = simp length-drop (omega arith) in
     let rest : take (length keys - 32) (drop 32 keys) ≡ drop 32 keys = take_rest keys 32 in
-    let made : c.spread-key.new.words ≡ words 8 (drop 32 keys) = c.spread-key.ensures.words ∙ rw (rest, eq-eqb (length (drop 32 keys)) 32 half) in
+    let made : c.spread_key.new.words ≡ words 8 (drop 32 keys) = c.spread_key.ensures.words ∙ rw (rest, eq-eqb (length (drop 32 keys)) 32 half) in
     rw (eq-eqb (length keys) 64 c.if-keys-ne64.false) (ap (λ (ws : List ℕ). Ok ws) made)

@@ -9,8 +9,8 @@ more f xs i v e lt h = rw e (fill_by_more f xs i 0 lt h)
 
 pub loop-j-preserved : goal.loop-j-preserved
 loop-j-preserved c = (
-  length-set c.loop-j.bytes c.loop-j.j c.byte-at.result ∙ c.loop-j.invariant.0,
-  more (λ k. byte_at c.args.image.now c.args.fill (8 * c.args.i + k)) c.loop-j.bytes c.loop-j.j c.byte-at.result c.byte-at.ensures (omega arith) c.loop-j.invariant.1,
+  length-set c.loop-j.bytes c.loop-j.j c.byte_at.result ∙ c.loop-j.invariant.0,
+  more (λ k. byte_at c.args.image.now c.args.fill (8 * c.args.i + k)) c.loop-j.bytes c.loop-j.j c.byte_at.result c.byte_at.ensures (omega arith) c.loop-j.invariant.1,
 )
 
 pub returns : goal.returns

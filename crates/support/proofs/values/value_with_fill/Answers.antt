@@ -23,7 +23,7 @@ loop-i-preserved c =
           let long : length text ≡ length image + more = filled-length image c.args.fill more in
           let room : 8 * i + 8 ≤ length image + more = omega arith in
           let whole : length (take (8 * i) text) % 8 ≡ 0 = simp length-take (omega arith) in
-          let at : c.block-at-bytes.result ≡ block 8 i text = c.block-at-bytes.ensures more room in
+          let at : c.block_at-bytes.result ≡ block 8 i text = c.block_at-bytes.ensures more room in
           let before : state_in c.loop-i.chain ≡ absorbed (map_in c.loop-i.chain) start (take (8 * i) text)
           = c.loop-i.invariant.1 more h ∙ ap (λ (F : List ℕ → List ℕ). absorbed F start (take (8 * i) text)) (sym map) in
           c.absorb.ensures.together (take (8 * i) text) whole before

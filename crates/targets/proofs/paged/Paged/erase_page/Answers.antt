@@ -10,21 +10,21 @@ use Rattle.targets.proofs.Kept.{locks_keep}
 use Rattle.targets.proofs.Put.{after-refused, written, part-long}
 use Rattle.targets.proofs.paged.Paged.erase_page.Goals as goal
 
-pub returns-in-err-may-erase : goal.returns-in-err-may-erase
-returns-in-err-may-erase g c =
+pub returns-in_err-may_erase : goal.returns-in_err-may_erase
+returns-in_err-may_erase g c =
     let t = c.args.self.now in
     let s = state_of (not (eqb g.row.REWRITABLE 0)) t in
     let blank = replicate (length_of t.sixteens) t.fill in
-    let why = code_of c.in-err-may-erase.field-0.0 in
-    let says : Err why ≡ erase_answer s c.args.page = c.in-err-may-erase.ensures in
-    let p = err_from_is_err_and c.from-residual.result c.from-residual.ensures.1 in
+    let why = code_of c.in_err-may_erase.field-0.0 in
+    let says : Err why ≡ erase_answer s c.args.page = c.in_err-may_erase.ensures in
+    let p = err_from_is_err_and c.from_residual.result c.from_residual.ensures.1 in
     record { answer = rw (p.1, p.2) says; after = after-refused why s (with_page s c.args.page blank true) says; locks = locks_keep s }
 
-pub slice-bounds-fill-end : goal.slice-bounds-fill-end
-slice-bounds-fill-end g c =
+pub slice_bounds-fill-end : goal.slice_bounds-fill-end
+slice_bounds-fill-end g c =
     let t = c.args.self.now in
     let s = state_of (not (eqb g.row.REWRITABLE 0)) t in
-    let says : Ok tt ≡ erase_answer s c.args.page = c.in-ok-may-erase.ensures in
+    let says : Ok tt ≡ erase_answer s c.args.page = c.in_ok-may_erase.ensures in
     let there = (erase-granted s c.args.page (sym says)).0 in
     omega (arith, ends_within (length_of t.sixteens) c.size-size.result c.args.page t.memory.now c.size-size.ensures there)
 
@@ -37,7 +37,7 @@ returns g c =
     let memory = t.memory.now in
     let blank = replicate n t.fill in
     let s = state_of (not (eqb g.row.REWRITABLE 0)) t in
-    let says : Ok tt ≡ erase_answer s page = c.in-ok-may-erase.ensures in
+    let says : Ok tt ≡ erase_answer s page = c.in_ok-may_erase.ensures in
     let there = (erase-granted s page (sym says)).0 in
     let held : c.fill.new.self ≡ blank =
     c.fill.ensures.after (λ y e. e) ∙ ap (λ (k : ℕ). replicate k t.fill) (part-long n page size memory c.size-size.ensures there) in

@@ -13,7 +13,7 @@ returns-then-self-place g c =
     let page = c.args.page in
     let n = c.args.length in
     let count = count_of (length_of t.sixteens) t.memory.now in
-    let says : Ok tt ≡ read_answer s page n = c.in-ok-may-read.ensures in
+    let says : Ok tt ≡ read_answer s page n = c.in_ok-may_read.ensures in
     let fits = reading-granted s page n (Ok tt) (sym says) in
     let why : Code → Result Unit Code = Err in
     ap why c.refusal.ensures ∙ sym (program-locked s page fits.0 n fits.1 (mark_is count t.locked page fits.0 c.if-self-place.true))
@@ -25,7 +25,7 @@ returns-then-not-self-place g c =
     let page = c.args.page in
     let n = c.args.length in
     let count = count_of (length_of t.sixteens) t.memory.now in
-    let says : Ok tt ≡ read_answer s page n = c.in-ok-may-read.ensures in
+    let says : Ok tt ≡ read_answer s page n = c.in_ok-may_read.ensures in
     let fits = reading-granted s page n (Ok tt) (sym says) in
     let why : Code → Result Unit Code = Err in
     ap why c.refusal-then-not-self-place.ensures
@@ -38,6 +38,6 @@ returns g c =
     let page = c.args.page in
     let n = c.args.length in
     let count = count_of (length_of t.sixteens) t.memory.now in
-    let says : Ok tt ≡ read_answer s page n = c.in-ok-may-read.ensures in
+    let says : Ok tt ≡ read_answer s page n = c.in_ok-may_read.ensures in
     let fits = reading-granted s page n (Ok tt) (sym says) in
     sym (program_free s page fits.0 n fits.1 (mark_is count t.locked page fits.0 c.if-self-place.false) (mark_is count t.ready page fits.0 c.if-not-self-place.false))

@@ -7,8 +7,8 @@ pub returns : goal.returns
 returns g c =
     let rewritable = not (eqb g.row.REWRITABLE 0) in
     let memory = c.args.memory.now in
-    let n = length_of (c.args.page-length / 16 - 1) in
+    let n = length_of (c.args.page_length / 16 - 1) in
     record {
-      value = built-is rewritable memory c.args.page-length c.args.page-count c.args.fill c.args.locked.now (omega arith) (omega arith) (omega arith) (omega arith) (omega arith) (omega arith);
+      value = built-is rewritable memory c.args.page_length c.args.page_count c.args.fill c.args.locked.now (omega arith) (omega arith) (omega arith) (omega arith) (omega arith) (omega arith);
       ready = built-ready rewritable n (count_of n memory) c.args.fill memory c.args.locked.now (omega arith);
     }

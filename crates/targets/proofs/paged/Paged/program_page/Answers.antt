@@ -8,12 +8,12 @@ use Rattle.targets.proofs.Pages.{pages-length}
 use Rattle.targets.proofs.Put.{written}
 use Rattle.targets.proofs.paged.Paged.program_page.Goals as goal
 
-pub slice-bounds-copy-from-slice-end : goal.slice-bounds-copy-from-slice-end
-slice-bounds-copy-from-slice-end g c =
+pub slice_bounds-copy_from_slice-end : goal.slice_bounds-copy_from_slice-end
+slice_bounds-copy_from_slice-end g c =
     let t = c.args.self.now in
     let s = state_of (not (eqb g.row.REWRITABLE 0)) t in
     let n = length c.args.bytes.now in
-    let says : Ok tt ≡ program_answer s c.args.page n = c.in-ok-may-program.ensures in
+    let says : Ok tt ≡ program_answer s c.args.page n = c.in_ok-may_program.ensures in
     let there = (program-granted s c.args.page n (sym says)).0 in
     omega (arith, ends_within (length_of t.sixteens) c.size-size.result c.args.page t.memory.now c.size-size.ensures there)
 
@@ -26,10 +26,10 @@ returns g c =
     let memory = t.memory.now in
     let rewritable = not (eqb g.row.REWRITABLE 0) in
     let s = state_of rewritable t in
-    let says : Ok tt ≡ program_answer s page (length bytes) = c.in-ok-may-program.ensures in
+    let says : Ok tt ≡ program_answer s page (length bytes) = c.in_ok-may_program.ensures in
     let granted = program-granted s page (length bytes) (sym says) in
     record {
       answer = says;
-      after = written rewritable n t.fill page c.size-size.result memory c.copy-from-slice.new.self bytes t.locked t.ready rewritable c.size-size.ensures granted.0 c.copy-from-slice.ensures.after granted.1 says;
+      after = written rewritable n t.fill page c.size-size.result memory c.copy_from_slice.new.self bytes t.locked t.ready rewritable c.size-size.ensures granted.0 c.copy_from_slice.ensures.after granted.1 says;
       kept = reads_back s page bytes (pages-length n (count_of n memory) memory);
     }
