@@ -4,4 +4,4 @@ use Rattle.sections.proofs.entry.read_eight.Goals as goal
 
 pub returns : goal.returns
 returns c =
-    ap₂ (λ (a b : ℕ). a + b * 4294967296) c.read-four-low.ensures c.read-four-high.ensures ∙ eight-at c.args.bytes.now c.args.at
+    ap₂ (λ (a b : ℕ). a + b * 4294967296) c.read_four-low.ensures c.read_four-high.ensures ∙ eight-at c.args.bytes.now c.args.at

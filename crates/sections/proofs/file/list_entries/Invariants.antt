@@ -6,5 +6,5 @@ use Rattle.sections.proofs.file.list_entries.Given as goal
 abbrev pub invariant-loop-i : goal.invariant-loop-i
 invariant-loop-i l =
     (length l.sections ≡ 8) × (l.offset ≤ 1000 + 20000 * l.i)
-    × (listed_from l.page-length l.page-count l.file l.count 0 (bodies_from l.count) []
-    ≡ listed_from l.page-length l.page-count l.file (l.count - l.i) l.i l.offset (map meaning_of (take l.i l.sections)))
+    × (listed_from l.page_length l.page_count l.file l.count 0 (bodies_from l.count) []
+    ≡ listed_from l.page_length l.page_count l.file (l.count - l.i) l.i l.offset (map meaning_of (take l.i l.sections)))

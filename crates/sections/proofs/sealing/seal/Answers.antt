@@ -11,14 +11,14 @@ use Rattle.sections.specs.Seals.{seal_answer, done, after, tagged, chaining_of, 
 use Rattle.sections.proofs.Sealed.{ready, body_is, opened, one_section}
 use Rattle.sections.proofs.sealing.seal.Goals as goal
 
-pub copy-from-slice-requires : goal.copy-from-slice-requires
-copy-from-slice-requires g c =
-    (ready c.block-length-n.result c.args.entry.now c.byte-count-long.result (length c.args.body.now) (meaning_of c.in-Ok.section) c.in-Ok.ensures).body-long
-    ∙ c.byte-count-long.ensures.value
+pub copy_from_slice-requires : goal.copy_from_slice-requires
+copy_from_slice-requires g c =
+    (ready c.block_length-n.result c.args.entry.now c.byte_count-long.result (length c.args.body.now) (meaning_of c.in-Ok.section) c.in-Ok.ensures).body-long
+    ∙ c.byte_count-long.ensures.value
 
-pub write-tag-requires : goal.write-tag-requires
-write-tag-requires g c =
-    (ready c.block-length-n.result c.args.entry.now c.byte-count-long.result (length c.args.body.now) (meaning_of c.in-Ok.section) c.in-Ok.ensures).entry-long
+pub write_tag-requires : goal.write_tag-requires
+write_tag-requires g c =
+    (ready c.block_length-n.result c.args.entry.now c.byte_count-long.result (length c.args.body.now) (meaning_of c.in-Ok.section) c.in-Ok.ensures).entry-long
 
 pub returns : goal.returns
 returns g c =
@@ -28,18 +28,18 @@ returns g c =
     let was = c.args.body.now in
     let s = meaning_of c.in-Ok.section in
     let ok : Ok s ≡ seal_answer map.size entry (length image) (length was)
-    = c.in-Ok.ensures ∙ ap₂ (λ (n k : ℕ). seal_answer n entry k (length was)) c.block-length-n.ensures.value c.byte-count-long.ensures.value in
+    = c.in-Ok.ensures ∙ ap₂ (λ (n k : ℕ). seal_answer n entry k (length was)) c.block_length-n.ensures.value c.byte_count-long.ensures.value in
     let agreed = (ready map.size entry (length image) (length was) s ok).agreed in
-    let copied : c.copy-from-slice.new.self ≡ image = c.copy-from-slice.ensures.after in
-    let made : c.encipher-text.new.text ≡ enciphered (chaining_of map s) image
-    = c.encipher-text.ensures.text ∙ (ap (λ (x : List ℕ). text_after map s.mode s.sync x) copied ∙ body_is map s image agreed) in
+    let copied : c.copy_from_slice.new.self ≡ image = c.copy_from_slice.ensures.after in
+    let made : c.encipher_text.new.text ≡ enciphered (chaining_of map s) image
+    = c.encipher_text.ensures.text ∙ (ap (λ (x : List ℕ). text_after map s.mode s.sync x) copied ∙ body_is map s image agreed) in
     let law : Undo (chaining_of map s) (length image)
-    = subst (λ (x : List ℕ). mode_answer map.size s.mode s.sync (length x) ≡ Ok tt → Undo (chaining_of map s) (length x)) copied c.encipher-text.ensures.undo agreed in
+    = subst (λ (x : List ℕ). mode_answer map.size s.mode s.sync (length x) ≡ Ok tt → Undo (chaining_of map s) (length x)) copied c.encipher_text.ensures.undo agreed in
     record {
       answer = ap done ok;
       body = made ∙ ap (λ (r : Result Described Code). after r (λ t. enciphered (chaining_of map t) image) was) ok;
-      entry = c.write-tag.ensures
-          ∙ (ap (λ (tag : ℕ). tagged tag entry) c.tag-of.ensures
-          ∙ ap (λ (r : Result Described Code). after r (λ t. tagged (imitovstavka (rows_of c.args.table.now) c.args.tag-key.now t.bits image) entry) entry) ok);
-      undo = λ t h. subst (λ (u : Described). Opens (chaining_of map u) image c.encipher-text.new.text) (one_section (seal_answer map.size entry (length image) (length was)) s t ok h) (opened map s image c.byte-count-long.ensures.bytes law c.encipher-text.new.text made);
+      entry = c.write_tag.ensures
+          ∙ (ap (λ (tag : ℕ). tagged tag entry) c.tag_of.ensures
+          ∙ ap (λ (r : Result Described Code). after r (λ t. tagged (imitovstavka (rows_of c.args.table.now) c.args.tag_key.now t.bits image) entry) entry) ok);
+      undo = λ t h. subst (λ (u : Described). Opens (chaining_of map u) image c.encipher_text.new.text) (one_section (seal_answer map.size entry (length image) (length was)) s t ok h) (opened map s image c.byte_count-long.ensures.bytes law c.encipher_text.new.text made);
     }

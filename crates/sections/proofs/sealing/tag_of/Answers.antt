@@ -9,4 +9,4 @@ returns c =
     let n = c.new-chain.ensures.state in
     let m = c.new-chain.ensures.map in
     let v = c.value.ensures in
-    let t = c.tag-length.ensures in cc
+    let t = c.tag_length.ensures in cc
