@@ -14,8 +14,8 @@ worked = ((refl, refl, refl), refl, (refl, refl, refl, refl, refl), refl, (refl,
 
 pub returns : goal.returns
 returns c =
-    let rows : c.in-ok-table.table.rows ≡ zeros = cc c.in-ok-table.ensures in
-    let bits : c.in-ok-bits.bits.bits ≡ 32 = cc c.in-ok-bits.ensures in
+    let rows : c.in_ok-table.table.rows ≡ zeros = cc c.in_ok-table.ensures in
+    let bits : c.in_ok-bits.bits.bits ≡ 32 = cc c.in_ok-bits.ensures in
     record {
       values = worked;
       image = c.imitovstavka.ensures ∙ (ap₂ (λ (t : Rows) (l : ℕ). imitovstavka_answer t zero_key l nine) rows bits ∙ ap (λ (v : ℕ). Ok v) worked.4.2);

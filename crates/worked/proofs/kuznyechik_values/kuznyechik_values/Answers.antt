@@ -40,7 +40,7 @@ worked = (substitutions, shifts, mixes, constants, keys, ap (λ (ks : List (List
 
 pub returns : goal.returns
 returns c =
-    let spread : c.new.result.keys.now ≡ example_keys = c.new.ensures ∙ (c.spread-key.ensures.keys ∙ keys) in
+    let spread : c.new.result.keys.now ≡ example_keys = c.new.ensures ∙ (c.spread_key.ensures.keys ∙ keys) in
     let with : List (List ℕ) → List ℕ = λ ks. enciphered ks plain in
     let made : c.encipher.new.block ≡ with c.new.result.keys.now = c.encipher.ensures.block in
     record { values = worked; block = ap (λ (b : List ℕ). Ok b) (made ∙ (ap with spread ∙ there)) }
