@@ -12,6 +12,6 @@ returns-in-Ok g c =
     let s = meaning_of c.args.section.now in
     let body = c.args.body.now in
     let marks = marks_in c.args.arrivals.now in
-    let size = c.block-length-n.ensures in
-    given_out (g.C.BlockCipher.map c.args.cipher.now) s (length body) (length marks) (copies_in (block_of s) body marks) c.args.i c.block-length-n.result c.in-Ok.count c.give.new.out _ size
+    let size = c.block_length-n.ensures in
+    given_out (g.C.BlockCipher.map c.args.cipher.now) s (length body) (length marks) (copies_in (block_of s) body marks) c.args.i c.block_length-n.result c.in-Ok.count c.give.new.out _ size
     (subst (λ (n : ℕ). n ≤ 16) (sym size) (block_small s.cipher)) c.give.auto.out c.in-Ok.ensures.answer c.give.ensures.out

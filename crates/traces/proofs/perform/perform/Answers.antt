@@ -48,15 +48,15 @@ returns-in-Frame g c =
     let closed = closed_in c.args.phase in
     let w = setting map s (rows_of c.args.keys.now.table.now) c.args.keys.now.tag_key.now (length page) in
     let is : call_of c.args.call ≡ trace.frame c.in-Frame.first c.in-Frame.bytes.now = ap call_of c.in-Frame.is in
-    let e = c.on-frame.ensures in
+    let e = c.on_frame.ensures in
     let p = as_came w _ _ _ _ (trace.frame c.in-Frame.first c.in-Frame.bytes.now) (call_of c.args.call) _ is
-    (performs_frame w body marks t page c.requires.store closed c.in-Frame.first c.in-Frame.bytes.now _ c.on-frame.new.body (marks_in c.on-frame.new.arrivals) e.answer e.body e.arrivals e.copies) in
+    (performs_frame w body marks t page c.requires.store closed c.in-Frame.first c.in-Frame.bytes.now _ c.on_frame.new.body (marks_in c.on_frame.new.arrivals) e.answer e.body e.arrivals e.copies) in
     record {
       section = e.phase.0;
       marks = ap length e.arrivals ∙ marks-kept s body marks c.in-Frame.first c.in-Frame.bytes.now closed;
-      bytes = subst OfBytes (sym is) c.byte-count-bytes.ensures.bytes;
+      bytes = subst OfBytes (sym is) c.byte_count-bytes.ensures.bytes;
       answer = p.answer;
-      standing = ap (λ (x : Bool). stands_by s c.on-frame.new.body (marks_in c.on-frame.new.arrivals) x t) e.phase.1 ∙ p.stands;
+      standing = ap (λ (x : Bool). stands_by s c.on_frame.new.body (marks_in c.on_frame.new.arrivals) x t) e.phase.1 ∙ p.stands;
       buffers = p.holds;
     }
 
@@ -71,11 +71,11 @@ returns-in-Give g c =
     let closed = closed_in c.args.phase in
     let w = setting map s (rows_of c.args.keys.now.table.now) c.args.keys.now.tag_key.now (length page) in
     let is : call_of c.args.call ≡ trace.give c.in-Give.block = ap call_of c.in-Give.is in
-    let sec = c.section-of-section.ensures in
-    let fit = fit_by map c.section-of-section.result s t (rows_of c.args.keys.now.table.now) c.args.keys.now.tag_key.now (length page) c.block-length-n.ensures.lawful c.requires.size c.page-length-long.ensures.formed sec in
+    let sec = c.section_of-section.ensures in
+    let fit = fit_by map c.section_of-section.result s t (rows_of c.args.keys.now.table.now) c.args.keys.now.tag_key.now (length page) c.block_length-n.ensures.lawful c.requires.size c.page_length-long.ensures.formed sec in
     let p = as_came w _ _ _ _ (trace.give c.in-Give.block) (call_of c.args.call) _ is
-    (performs_give w body marks t page c.requires.store fit c.byte-count-count.ensures.bytes closed c.in-Give.block _
-    (c.on-give-answer.ensures ∙ ap (λ (d : Described). given_by map d (length body) (length marks) (copies_in (block_of d) body marks) c.in-Give.block) sec)) in
+    (performs_give w body marks t page c.requires.store fit c.byte_count-count.ensures.bytes closed c.in-Give.block _
+    (c.on_give-answer.ensures ∙ ap (λ (d : Described). given_by map d (length body) (length marks) (copies_in (block_of d) body marks) c.in-Give.block) sec)) in
     record { section = refl; marks = refl; bytes = subst OfBytes (sym is) tt; answer = p.answer; standing = p.stands; buffers = p.holds }
 
 pub returns-in-Erase : goal.returns-in-Erase
@@ -105,11 +105,11 @@ returns-in-Program g c =
     let w = setting map s (rows_of c.args.keys.now.table.now) c.args.keys.now.tag_key.now (length page) in
     let j = c.in-Program.j in
     let is : call_of c.args.call ≡ trace.program j = ap call_of c.in-Program.is in
-    let sec = c.section-of-section.ensures in
-    let fit = fit_by map c.section-of-section.result s t (rows_of c.args.keys.now.table.now) c.args.keys.now.tag_key.now (length page) c.block-length-n.ensures.lawful c.requires.size c.page-length-long.ensures.formed sec in
+    let sec = c.section_of-section.ensures in
+    let fit = fit_by map c.section_of-section.result s t (rows_of c.args.keys.now.table.now) c.args.keys.now.tag_key.now (length page) c.block_length-n.ensures.lawful c.requires.size c.page_length-long.ensures.formed sec in
     let e = c.program.ensures in
     let p = as_came w _ _ _ _ (trace.program j) (call_of c.args.call) _ is
-    (performs_program w body marks t page c.requires.store fit c.byte-count-count.ensures.bytes closed j _ (g.T.Target.state c.program.new.target) c.program.new.page refl
+    (performs_program w body marks t page c.requires.store fit c.byte_count-count.ensures.bytes closed j _ (g.T.Target.state c.program.new.target) c.program.new.page refl
     (c.told-answer-in-Program.ensures ∙ (ap (λ r. answered r done) e.answer ∙ ap (λ (d : Described). answered (program_page_answer map d (length body) (length marks) t (copies_in (block_of d) body marks) (length page) j) done) sec))
     (e.target ∙ ap (λ (d : Described). target_programmed map d (length body) (length marks) t (copies_in (block_of d) body marks) (length page) j) sec)
     (e.page ∙ ap (λ (d : Described). buffer_after map d (length body) (length marks) t (copies_in (block_of d) body marks) j page) sec)) in
@@ -126,8 +126,8 @@ returns-in-Close g c =
     let closed = closed_in c.args.phase in
     let w = setting map s (rows_of c.args.keys.now.table.now) c.args.keys.now.tag_key.now (length page) in
     let is : call_of c.args.call ≡ trace.close = ap call_of c.in-Close.is in
-    let e = c.on-close.ensures in
-    let p = as_came w _ _ _ _ trace.close (call_of c.args.call) _ is (performs_close w body marks t page c.requires.store closed (closed_in c.on-close.result.phase) _ e.answer e.closed) in
+    let e = c.on_close.ensures in
+    let p = as_came w _ _ _ _ trace.close (call_of c.args.call) _ is (performs_close w body marks t page c.requires.store closed (closed_in c.on_close.result.phase) _ e.answer e.closed) in
     record { section = e.section; marks = refl; bytes = subst OfBytes (sym is) tt; answer = p.answer; standing = p.stands; buffers = p.holds }
 
 pub returns-in-Reopen : goal.returns-in-Reopen
@@ -141,8 +141,8 @@ returns-in-Reopen g c =
     let closed = closed_in c.args.phase in
     let w = setting map s (rows_of c.args.keys.now.table.now) c.args.keys.now.tag_key.now (length page) in
     let is : call_of c.args.call ≡ trace.reopen = ap call_of c.in-Reopen.is in
-    let e = c.on-reopen.ensures in
-    let p = as_came w _ _ _ _ trace.reopen (call_of c.args.call) _ is (performs_reopen w body marks t page c.requires.store closed (closed_in c.on-reopen.result.phase) _ e.answer e.closed) in
+    let e = c.on_reopen.ensures in
+    let p = as_came w _ _ _ _ trace.reopen (call_of c.args.call) _ is (performs_reopen w body marks t page c.requires.store closed (closed_in c.on_reopen.result.phase) _ e.answer e.closed) in
     record { section = e.section; marks = refl; bytes = subst OfBytes (sym is) tt; answer = p.answer; standing = p.stands; buffers = p.holds }
 
 pub returns-in-Verify : goal.returns-in-Verify
@@ -156,6 +156,6 @@ returns-in-Verify g c =
     let closed = closed_in c.args.phase in
     let w = setting map s (rows_of c.args.keys.now.table.now) c.args.keys.now.tag_key.now (length page) in
     let is : call_of c.args.call ≡ trace.verify = ap call_of c.in-Verify.is in
-    let e = c.on-verify.ensures in
-    let p = as_came w _ _ _ _ trace.verify (call_of c.args.call) _ is (performs_verify w body marks t page c.requires.store closed _ c.on-verify.new.page e.answer e.page) in
+    let e = c.on_verify.ensures in
+    let p = as_came w _ _ _ _ trace.verify (call_of c.args.call) _ is (performs_verify w body marks t page c.requires.store closed _ c.on_verify.new.page e.answer e.page) in
     record { section = e.section; marks = refl; bytes = subst OfBytes (sym is) tt; answer = p.answer; standing = ap (λ (x : Bool). stands_by s body marks x t) e.closed ∙ p.stands; buffers = p.holds }

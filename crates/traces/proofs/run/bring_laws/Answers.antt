@@ -10,7 +10,7 @@ pub returns : goal.returns
 returns g c =
     let sec = c.section-section.result in
     record {
-      cipher = c.block-length-n.ensures.lawful;
-      target = c.page-length-long.ensures.formed;
+      cipher = c.block_length-n.ensures.lawful;
+      target = c.page_length-long.ensures.formed;
       mode = subst (λ (d : Described). mode_answer (block_of d) d.mode d.sync d.length ≡ Ok tt) c.section-section.ensures (mode_ok (block_of (meaning_of sec)) sec.mode sec.sync sec.length sec.agreed sec.whole);
     }

@@ -19,8 +19,8 @@ use Rattle.traces.specs.Runs.{setting, stands_by, Runs, Unchanged, Ends}
 use Rattle.traces.proofs.Ended.{opened, record_cleared, run-whole}
 use Rattle.traces.proofs.run.run.Goals as goal
 
-pub run-calls-requires : goal.run-calls-requires
-run-calls-requires g c =
+pub run_calls-requires : goal.run_calls-requires
+run_calls-requires g c =
     let listing = sections_in c.args.listing.now in
     let n = (g.C.BlockCipher.map c.args.keys.now.cipher.now).size in
     let body = c.args.body.now in
@@ -48,24 +48,24 @@ returns g c =
     let marks = marks_in a.arrivals.now in
     let page = a.page.now in
     let s = receiving_of c.in-Ok.state in
-    let e = c.run-calls.ensures in
+    let e = c.run_calls.ensures in
     let ok = opened listing a.number cipher.size (length body) (length marks) s c.in-Ok.ensures.answer in
     let clean = record_cleared listing a.number cipher.size (length body) marks (marks_in c.open.new.arrivals) s c.in-Ok.ensures.answer c.open.ensures.arrivals in
-    let fit : Fit (setting cipher s (rows_of a.keys.now.table.now) a.keys.now.tag_key.now (length page)) t = record { lawful = c.bring-laws.ensures.cipher; sized = ok.0; mode = c.bring-laws.ensures.mode; target = c.bring-laws.ensures.target } in
+    let fit : Fit (setting cipher s (rows_of a.keys.now.table.now) a.keys.now.tag_key.now (length page)) t = record { lawful = c.bring_laws.ensures.cipher; sized = ok.0; mode = c.bring_laws.ensures.mode; target = c.bring_laws.ensures.target } in
     let w = setting cipher s (rows_of a.keys.now.table.now) a.keys.now.tag_key.now (length page) in
-    let p = c.run-calls.result in
+    let p = c.run_calls.result in
     let calls = map call_of (take p.made a.calls.now) in
-    let told = map answer_of (take p.made c.run-calls.new.answers) in
-    let end = stands_by s c.run-calls.new.body (marks_in c.run-calls.new.arrivals) (closed_in p.phase) (g.T.Target.state c.run-calls.new.target) in
-    let left = buffers c.run-calls.new.body (marks_in c.run-calls.new.arrivals) c.run-calls.new.page in
+    let told = map answer_of (take p.made c.run_calls.new.answers) in
+    let end = stands_by s c.run_calls.new.body (marks_in c.run_calls.new.arrivals) (closed_in p.phase) (g.T.Target.state c.run_calls.new.target) in
+    let left = buffers c.run_calls.new.body (marks_in c.run_calls.new.arrivals) c.run_calls.new.page in
     let opens : (d : Described) → ◌≡◌ {A = Result Described Code} (Ok (section_of p.phase)) (Ok d) → ◌≡◌ {A = Result Described Code} (Ok s) (Ok d) = λ d q. ap Ok (sym e.section) ∙ q in
     record {
       answer = ap Ok e.section ∙ (c.in-Ok.ensures.answer ∙ ap (λ b. sized b (open_answer listing a.number cipher.size (length body) (length marks))) (sym (eq-eqb (length a.answers.now) (length a.calls.now) c.if-answers-calls.false)));
       refused = λ x q. absurd (granted (section_of p.phase) x q);
-      made = λ d q. subst (λ (b : Bool). Ends b (length a.calls.now) (map answer_of c.run-calls.new.answers) p.made) c.stops-stops.ensures e.made;
+      made = λ d q. subst (λ (b : Bool). Ends b (length a.calls.now) (map answer_of c.run_calls.new.answers) p.made) c.stops-stops.ensures e.made;
       rest = e.rest;
       runs = λ d q.
           for_told
-          (λ (x : Described). Runs (setting cipher x (rows_of a.keys.now.table.now) a.keys.now.tag_key.now (length page)) t (buffers body (replicate (blocks_of x) Missing) page) calls told (g.T.Target.state c.run-calls.new.target) (closed_in p.phase) left) s d
+          (λ (x : Described). Runs (setting cipher x (rows_of a.keys.now.table.now) a.keys.now.tag_key.now (length page)) t (buffers body (replicate (blocks_of x) Missing) page) calls told (g.T.Target.state c.run_calls.new.target) (closed_in p.phase) left) s d
           (run-whole w t fit body (marks_in c.open.new.arrivals) clean calls e.bytes told page end left e.answers e.standing e.buffers) (opens d q);
     }
