@@ -95,7 +95,7 @@ fn round_key_agrees(keys: &[[u8; 16]; 10], v: &Vector) -> Result<bool, Fault> {
     for key in keys {
         i = i.saturating_add(1);
         if i == number(v.sync.as_slice()) {
-            return Ok(*key == v.expected.as_slice());
+            return Ok(key.as_slice() == v.expected.as_slice());
         }
     }
     Err(Fault::Malformed)
@@ -133,7 +133,7 @@ fn imitovstavka_agrees(
         _ => return Err(Fault::Malformed),
     };
     let value = imitovstavka(table, words, TagLength::new(bits)?, v.text.as_slice())?;
-    Ok(value.to_le_bytes() == v.expected.as_slice())
+    Ok(value.to_le_bytes().as_slice() == v.expected.as_slice())
 }
 
 /// Runs a vector of GOST 28147-89 with table CryptoPro-A.
