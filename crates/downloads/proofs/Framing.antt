@@ -16,7 +16,7 @@ use Rattle.downloads.specs.declared.arrivals.Arrival.{Arrival}
 use Rattle.downloads.specs.Marks.{arrived_at, put_at, marked_from}
 use Rattle.downloads.specs.Copies.{Copies, copies_in}
 use Rattle.downloads.specs.Frames.{covers, good_frame, block_in, differs, conflicts, with_frame, body_after, marks_after}
-use Rattle.downloads.proofs.Parts.{put_mid}
+use Rattle.downloads.proofs.Parts.{put_mid_lem}
 use Rattle.downloads.proofs.Marks.{marked_at}
 
 -- what a good frame keeps
@@ -86,7 +86,7 @@ module _ (n f : ℕ) (body frame : List ℕ) (pos : 0 < n) (within : n * f + len
   after = body_after n f frame body
 
   mid : after ≡ put_mid (n * f) (length frame) body frame
-  mid = sym (put_mid (n * f) (length frame) body frame refl)
+  mid = sym (put_mid_lem (n * f) (length frame) body frame refl)
 
   drop_in : (d : ℕ) → d ≤ length frame → drop (n * f + d) after ≡ drop d frame ++ drop (n * f + length frame) body
   drop_in d h =
@@ -175,9 +175,6 @@ pub conflict_arrived : (n : ℕ) (body : List ℕ) (marks : List Arrival) (f : �
 unfolding copies_in
 conflict_arrived n body marks f frame k h l t =
     conflicts_in n (copies_in n body marks) f frame k h l ∙ ap (λ (o : Option (List ℕ)). differs o (block_in n f frame k)) (cond-true (arrived_at marks k) (Some (block n k body)) None t)
-
-pub differs-is : (xs ys : List ℕ) (r x : Bool) → Decides x (xs ≡ ys) → r ≡ not x → r ≡ not (bytes_eq xs ys)
-differs-is xs ys r x d e = e ∙ ap not (same_from_decides x (bytes_eq xs ys) d (bytes_eq-Decides xs ys))
 
 -- a part that is cut at the end of what it is cut from
 cut : (n : ℕ) (xs : List ℕ) (a w : ℕ) → (w ≡ n) ⊎ ((w ≤ n) × (length xs ≤ a + w)) → take w (drop a xs) ≡ take n (drop a xs)

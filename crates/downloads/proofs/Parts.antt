@@ -7,8 +7,8 @@ use Rattle.downloads.specs.Marks.{put_at}
 
 module _ {A : Type 0} where
   -- as what a write to a part leaves
-  pub put_mid : (a k : ℕ) (xs ys : List A) → k ≡ length ys → put_mid a k xs ys ≡ put_at a ys xs
-  put_mid a k xs ys e = ap (λ (zs : List A). take a xs ++ (ys ++ zs)) (drop-drop k a xs ∙ ap (λ (m : ℕ). drop (a + m) xs) e)
+  pub put_mid_lem : (a k : ℕ) (xs ys : List A) → k ≡ length ys → put_mid a k xs ys ≡ put_at a ys xs
+  put_mid_lem a k xs ys e = ap (λ (zs : List A). take a xs ++ (ys ++ zs)) (drop-drop k a xs ∙ ap (λ (m : ℕ). drop (a + m) xs) e)
 
   pub put_length : (a : ℕ) (ys xs : List A) → a + length ys ≤ length xs → length (put_at a ys xs) ≡ length xs
   put_length a ys xs h = simp (length-append, length-take, length-drop) (omega arith)

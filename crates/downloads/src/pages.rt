@@ -80,7 +80,7 @@ fn judge_page(
     ensures { (t : TargetState) → t.page_length ≡ page_length → t.page_count ≡ page_count → outcome result ≡ page_judged (meaning_of section.now) t (copies_in (block_of (meaning_of section.now)) body.now (marks_in arrivals.now)) j }
 {
     let j = u32::from(j);
-    let place = u32::from(section.first_page) + j;
+    let place = section.first_page + j;
     if j * page_length >= section.length || place >= page_count {
         return Err(Refusal::new(Reason::NoSuchPage, place, Layer::Download));
     }
@@ -124,5 +124,5 @@ pub fn program<C: BlockCipher, T: Target>(
     }
     judge_page(section, body, arrivals, long, target.page_count(), j)?;
     prepare(section, cipher, body, target.fill(), u32::from(j), page);
-    target.program(u32::from(section.first_page) + u32::from(j), page)
+    target.program(section.first_page + u32::from(j), page)
 }

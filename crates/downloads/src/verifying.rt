@@ -30,7 +30,7 @@ fn judge_verifying(
     if room != page_length as usize {
         return Err(Refusal::new(Reason::WrongBuffer, 0, Layer::Download));
     }
-    let first = u32::from(section.first_page);
+    let first = section.first_page;
     let pages = (section.length + page_length - 1) / page_length;
     if first + pages > page_count {
         return Err(Refusal::new(Reason::NoSuchPage, first.max(page_count), Layer::Download));
@@ -56,7 +56,7 @@ fn value_on<'a, T: Target>(
     let long = page.len();
     let mut left = section.length as usize;
     for k in 0..(left + long - 1) / long {
-        let _ = target.read(u32::from(section.first_page) + k as u32, page);
+        let _ = target.read(section.first_page + k as u32, page);
         let count = left.min(long);
         chain.absorb(&page[..count]);
         left -= count;

@@ -1,14 +1,12 @@
 use Rattle.std.proofs.Common.{◌≡◌, ℕ, ◌+◌, ◌-◌, ◌*◌, ◌<◌, ◌≤◌, Bool, not, List, length, sym, ap, ◌∙◌, subst, ap₂, mul-le-mul_left, arith, rules}
 use Rattle.std.specs.Str.{bytes_eq}
-use Rattle.std.proofs.lemmas.Slice.Eq.{slice_eq-Decides}
 use Rattle.blocks.specs.Bytes.{block}
 use Rattle.downloads.specs.Marks.{marks_in}
-use Rattle.downloads.proofs.Framing.{framed, frame_low, conflict-missing, conflict_arrived, differs-is, cut-frame, cut-body}
+use Rattle.downloads.proofs.Framing.{framed, frame_low, conflict-missing, conflict_arrived, cut-frame, cut-body}
 use Rattle.downloads.proofs.frames.conflicts_at.Goals as goal
-use Rattle.std.proofs.lemmas.Bool.Decides.{Decides-eqb}
 
-pub overflow-add-first : goal.overflow-add-first
-overflow-add-first c =
+pub overflow_add-first : goal.overflow_add-first
+overflow_add-first c =
     let L = length c.args.body.now in
     let bytes = length c.args.frame.now in
     omega (arith, frame_low c.args.n L c.args.first bytes c.args.i c.requires.small.0 c.requires.small.1.1 (framed c.args.n L c.args.first bytes c.requires.frame) c.requires.within)
@@ -26,11 +24,9 @@ returns c =
     let frame = c.args.frame.now in
     let pos : 0 < n = c.requires.small.0 in
     let fr = framed n (length body) first (length frame) c.requires.frame in
-    let h = c.ne.ensures in
-    let d = slice_eq-Decides Decides-eqb _ _ _ h.1 in
     let back : first + i - first ≡ i = omega arith in
     let b = cut-body n first i c.min-end.result body frame pos c.requires.within fr c.min-end.ensures in
     let f = cut-frame n first i c.min-end.result body frame pos c.requires.within fr c.min-end.ensures in
-    differs-is _ _ c.ne.result h.0 d h.2
+    c.ne.ensures
     ∙ (ap₂ (λ (x y : List ℕ). not (bytes_eq x y)) b (f ∙ ap (λ (k : ℕ). block n k frame) (sym back))
     ∙ sym (conflict_arrived n body (marks_in c.args.arrivals.now) first frame (first + i) (omega arith) (subst (λ (k : ℕ). n * k < length frame) (sym back) c.requires.within) (sym c.if-not-has.ensures)))

@@ -11,13 +11,13 @@ use Rattle.downloads.proofs.Marks.{marks_few, lacks_are}
 use Rattle.downloads.proofs.Answered.{told, store_parts, close_unsized, close-found}
 use Rattle.downloads.proofs.frames.judge_closing.Goals as goal
 
-pub returns-then-not-good-store : goal.returns-then-not-good-store
-returns-then-not-good-store c =
+pub returns-then-not-good_store : goal.returns-then-not-good_store
+returns-then-not-good_store c =
     let s = meaning_of c.args.section.now in
     let body = c.args.body.now in
     let marks = marks_in c.args.arrivals.now in
     told c.new.result WrongBuffer 0 Download c.new.ensures
-    ∙ close_unsized s (length body) (length marks) (copies_in (block_of s) body marks) 0 body (c.if-not-good-store.ensures ∙ ap (good_store s (length body)) c.blocks-blocks.ensures)
+    ∙ close_unsized s (length body) (length marks) (copies_in (block_of s) body marks) 0 body (c.if-not-good_store.ensures ∙ ap (good_store s (length body)) c.blocks-blocks.ensures)
 
 -- what was found, as the answer has it
 module _ (s : Described) (body : List ℕ) (marks : List Arrival) (m : ℕ) (o : Option ℕ) (counted : m ≡ length marks) (store : true ≡ good_store s (length body) m) (found : o ≡ missing_from marks 0 (m - 0)) where
@@ -31,8 +31,8 @@ module _ (s : Described) (body : List ℕ) (marks : List Arrival) (m : ℕ) (o :
 pub returns-in-Some : goal.returns-in-Some
 returns-in-Some c =
     told c.new-in-Some.result MissingBlock c.in-Some.block Download c.new-in-Some.ensures
-    ∙ as_found (meaning_of c.args.section.now) c.args.body.now (marks_in c.args.arrivals.now) c.blocks-blocks.result (Some c.in-Some.block) c.blocks-blocks.ensures c.if-not-good-store.ensures c.in-Some.ensures
+    ∙ as_found (meaning_of c.args.section.now) c.args.body.now (marks_in c.args.arrivals.now) c.blocks-blocks.result (Some c.in-Some.block) c.blocks-blocks.ensures c.if-not-good_store.ensures c.in-Some.ensures
 
 pub returns-in-None : goal.returns-in-None
 returns-in-None c =
-    as_found (meaning_of c.args.section.now) c.args.body.now (marks_in c.args.arrivals.now) c.blocks-blocks.result None c.blocks-blocks.ensures c.if-not-good-store.ensures c.in-None.ensures
+    as_found (meaning_of c.args.section.now) c.args.body.now (marks_in c.args.arrivals.now) c.blocks-blocks.result None c.blocks-blocks.ensures c.if-not-good_store.ensures c.in-None.ensures

@@ -11,22 +11,22 @@ use Rattle.downloads.specs.Frames.{block_of, good_store, good_frame, conflicts, 
 use Rattle.downloads.proofs.Answered.{told, store_parts, frame_unsized, frame-bad, frame_found}
 use Rattle.downloads.proofs.frames.judge_frame.Goals as goal
 
-pub returns-then-not-good-store : goal.returns-then-not-good-store
-returns-then-not-good-store c =
+pub returns-then-not-good_store : goal.returns-then-not-good_store
+returns-then-not-good_store c =
     let s = meaning_of c.args.section.now in
     let body = c.args.body.now in
     let marks = marks_in c.args.arrivals.now in
     told c.new.result WrongBuffer 0 Download c.new.ensures
-    ∙ frame_unsized s (length body) (length marks) (copies_in (block_of s) body marks) c.args.first c.args.frame.now (c.if-not-good-store.ensures ∙ ap (good_store s (length body)) c.blocks-2.ensures)
+    ∙ frame_unsized s (length body) (length marks) (copies_in (block_of s) body marks) c.args.first c.args.frame.now (c.if-not-good_store.ensures ∙ ap (good_store s (length body)) c.blocks-2.ensures)
 
-pub returns-then-not-good-frame : goal.returns-then-not-good-frame
-returns-then-not-good-frame c =
+pub returns-then-not-good_frame : goal.returns-then-not-good_frame
+returns-then-not-good_frame c =
     let s = meaning_of c.args.section.now in
     let body = c.args.body.now in
     let marks = marks_in c.args.arrivals.now in
-    told c.new-then-not-good-frame.result BadBlock c.args.first Download c.new-then-not-good-frame.ensures
-    ∙ frame-bad s (length body) (length marks) (copies_in (block_of s) body marks) c.args.first c.args.frame.now (c.if-not-good-store.ensures ∙ ap (good_store s (length body)) c.blocks-2.ensures)
-    (c.if-not-good-frame.ensures ∙ ap (λ (n : ℕ). good_frame n s.length c.args.first (length c.args.frame.now)) c.block-length-n.ensures)
+    told c.new-then-not-good_frame.result BadBlock c.args.first Download c.new-then-not-good_frame.ensures
+    ∙ frame-bad s (length body) (length marks) (copies_in (block_of s) body marks) c.args.first c.args.frame.now (c.if-not-good_store.ensures ∙ ap (good_store s (length body)) c.blocks-2.ensures)
+    (c.if-not-good_frame.ensures ∙ ap (λ (n : ℕ). good_frame n s.length c.args.first (length c.args.frame.now)) c.block_length-n.ensures)
 
 -- what was found, as the answer has it
 module _ (s : Described) (body : List ℕ) (marks : List Arrival) (f : ℕ) (frame : List ℕ) (n m : ℕ) (o : Option ℕ)
@@ -41,10 +41,10 @@ module _ (s : Described) (body : List ℕ) (marks : List Arrival) (f : ℕ) (fra
 pub returns-in-Some : goal.returns-in-Some
 returns-in-Some c =
     told c.new-in-Some.result Conflict c.in-Some.block Download c.new-in-Some.ensures
-    ∙ as_found (meaning_of c.args.section.now) c.args.body.now (marks_in c.args.arrivals.now) c.args.first c.args.frame.now c.block-length-n.result c.blocks-2.result (Some c.in-Some.block)
-    c.block-length-n.ensures c.blocks-2.ensures c.if-not-good-store.ensures c.if-not-good-frame.ensures c.in-Some.ensures
+    ∙ as_found (meaning_of c.args.section.now) c.args.body.now (marks_in c.args.arrivals.now) c.args.first c.args.frame.now c.block_length-n.result c.blocks-2.result (Some c.in-Some.block)
+    c.block_length-n.ensures c.blocks-2.ensures c.if-not-good_store.ensures c.if-not-good_frame.ensures c.in-Some.ensures
 
 pub returns-in-None : goal.returns-in-None
 returns-in-None c =
-    as_found (meaning_of c.args.section.now) c.args.body.now (marks_in c.args.arrivals.now) c.args.first c.args.frame.now c.block-length-n.result c.blocks-2.result None
-    c.block-length-n.ensures c.blocks-2.ensures c.if-not-good-store.ensures c.if-not-good-frame.ensures c.in-None.ensures
+    as_found (meaning_of c.args.section.now) c.args.body.now (marks_in c.args.arrivals.now) c.args.first c.args.frame.now c.block_length-n.result c.blocks-2.result None
+    c.block_length-n.ensures c.blocks-2.ensures c.if-not-good_store.ensures c.if-not-good_frame.ensures c.in-None.ensures

@@ -11,24 +11,24 @@ use Rattle.downloads.proofs.pages.judge_page.Goals as goal
 pub returns-in-Some : goal.returns-in-Some
 returns-in-Some c t long many =
     let s = meaning_of c.args.section.now in
-    let P = c.args.page-length in
-    let n = c.block-length.result in
+    let P = c.args.page_length in
+    let n = c.block_length.result in
     let j = c.args.j in
     let same : c.from-j.result ≡ j = c.from-j.ensures in
     told c.new-in-Some.result MissingBlock c.in-Some.block Download c.new-in-Some.ensures
-    ∙ page-found s c.args.body.now (marks_in c.args.arrivals.now) P j c.requires.page (subst (λ (k : ℕ). k * P < s.length) same c.if-j-page-length.false)
-    n c.blocks-2.result c.args.page-count c.block-length.ensures c.requires.store c.blocks-2.ensures (subst (λ (k : ℕ). k < c.args.page-count) (ap₂ (λ (a b : ℕ). a + b) c.from.ensures same) c.if-place-page-count.false)
-    (Some c.in-Some.block) c.first-needed.result c.min-end.result
-    (c.first-needed.ensures ∙ ap (λ (k : ℕ). first_needed s.mode (k * (P / n))) same) (c.min-end.ensures ∙ ap (λ (k : ℕ). min (k * (P / n) + P / n) c.blocks-2.result) same) c.in-Some.ensures t long many
+    ∙ page-found s c.args.body.now (marks_in c.args.arrivals.now) P j c.requires.page (subst (λ (k : ℕ). k * P < s.length) same c.if-j-page_length.false)
+    n c.blocks-2.result c.args.page_count c.block_length.ensures c.requires.store c.blocks-2.ensures (subst (λ (k : ℕ). k < c.args.page_count) (ap (λ (b : ℕ). s.first_page + b) same) c.if-place-page_count.false)
+    (Some c.in-Some.block) c.first_needed.result c.min-end.result
+    (c.first_needed.ensures ∙ ap (λ (k : ℕ). first_needed s.mode (k * (P / n))) same) (c.min-end.ensures ∙ ap (λ (k : ℕ). min (k * (P / n) + P / n) c.blocks-2.result) same) c.in-Some.ensures t long many
 
 pub returns-in-None : goal.returns-in-None
 returns-in-None c t long many =
     let s = meaning_of c.args.section.now in
-    let P = c.args.page-length in
-    let n = c.block-length.result in
+    let P = c.args.page_length in
+    let n = c.block_length.result in
     let j = c.args.j in
     let same : c.from-j.result ≡ j = c.from-j.ensures in
-    page-found s c.args.body.now (marks_in c.args.arrivals.now) P j c.requires.page (subst (λ (k : ℕ). k * P < s.length) same c.if-j-page-length.false)
-    n c.blocks-2.result c.args.page-count c.block-length.ensures c.requires.store c.blocks-2.ensures (subst (λ (k : ℕ). k < c.args.page-count) (ap₂ (λ (a b : ℕ). a + b) c.from.ensures same) c.if-place-page-count.false)
-    None c.first-needed.result c.min-end.result
-    (c.first-needed.ensures ∙ ap (λ (k : ℕ). first_needed s.mode (k * (P / n))) same) (c.min-end.ensures ∙ ap (λ (k : ℕ). min (k * (P / n) + P / n) c.blocks-2.result) same) c.in-None.ensures t long many
+    page-found s c.args.body.now (marks_in c.args.arrivals.now) P j c.requires.page (subst (λ (k : ℕ). k * P < s.length) same c.if-j-page_length.false)
+    n c.blocks-2.result c.args.page_count c.block_length.ensures c.requires.store c.blocks-2.ensures (subst (λ (k : ℕ). k < c.args.page_count) (ap (λ (b : ℕ). s.first_page + b) same) c.if-place-page_count.false)
+    None c.first_needed.result c.min-end.result
+    (c.first_needed.ensures ∙ ap (λ (k : ℕ). first_needed s.mode (k * (P / n))) same) (c.min-end.ensures ∙ ap (λ (k : ℕ). min (k * (P / n) + P / n) c.blocks-2.result) same) c.in-None.ensures t long many

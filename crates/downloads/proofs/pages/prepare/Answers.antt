@@ -9,42 +9,42 @@ use Rattle.downloads.proofs.Answered.{image_small}
 use Rattle.downloads.proofs.Prepared.{run_length, fill_rest, page_small, page_starts, page_ends, page-fits, page-holds, first-is, first_low, count-is, begin_is, first_small}
 use Rattle.downloads.proofs.pages.prepare.Goals as goal
 
-pub overflow-sub-body-2 : goal.overflow-sub-body-2
-overflow-sub-body-2 g c =
+pub overflow_sub-body-2 : goal.overflow_sub-body-2
+overflow_sub-body-2 g c =
     let s = meaning_of c.args.section.now in
-    first_low s c.block-length-n.result (length c.args.body.now) (length c.args.page.now) c.args.j (c.block-length-n.ensures.value ∙ c.requires.parts.0) c.requires.parts.1 (image_small s.length c.args.section.now.allowed) c.requires.page c.requires.inside
+    first_low s c.block_length-n.result (length c.args.body.now) (length c.args.page.now) c.args.j (c.block_length-n.ensures.value ∙ c.requires.parts.0) c.requires.parts.1 (image_small s.length c.args.section.now.allowed) c.requires.page c.requires.inside
 
-pub overflow-cast-from-2 : goal.overflow-cast-from-2
-overflow-cast-from-2 g c =
+pub overflow_cast-from-2 : goal.overflow_cast-from-2
+overflow_cast-from-2 g c =
     let s = meaning_of c.args.section.now in
-    omega (arith, first_small s c.block-length-n.result (length c.args.body.now) (length c.args.page.now) c.args.j (c.block-length-n.ensures.value ∙ c.requires.parts.0) c.requires.parts.1 (image_small s.length c.args.section.now.allowed) c.requires.page c.requires.inside)
+    omega (arith, first_small s c.block_length-n.result (length c.args.body.now) (length c.args.page.now) c.args.j (c.block_length-n.ensures.value ∙ c.requires.parts.0) c.requires.parts.1 (image_small s.length c.args.section.now.allowed) c.requires.page c.requires.inside)
 
-pub decipher-blocks-requires : goal.decipher-blocks-requires
-decipher-blocks-requires g c =
+pub decipher_blocks-requires : goal.decipher_blocks-requires
+decipher_blocks-requires g c =
     let s = meaning_of c.args.section.now in
     let P = length c.args.page.now in
     let j = c.args.j in
-    let size = c.block-length-n.ensures.value ∙ c.requires.parts.0 in
+    let size = c.block_length-n.ensures.value ∙ c.requires.parts.0 in
     let small = image_small s.length c.args.section.now.allowed in
-    let first = first-is s c.block-length-n.result (length c.args.body.now) P j size c.requires.parts.1 small c.requires.page c.requires.inside in
-    let count : c.min-count.result ≡ count_in P s j = c.min-count.ensures ∙ count-is s c.block-length-n.result (length c.args.body.now) P j size c.requires.parts.1 small c.requires.page c.requires.inside in
+    let first = first-is s c.block_length-n.result (length c.args.body.now) P j size c.requires.parts.1 small c.requires.page c.requires.inside in
+    let count : c.min-count.result ≡ count_in P s j = c.min-count.ensures ∙ count-is s c.block_length-n.result (length c.args.body.now) P j size c.requires.parts.1 small c.requires.page c.requires.inside in
     record {
       parts = c.requires.parts;
       blocks = subst (λ (k : ℕ). k ≤ blocks_of s) (ap₂ (λ (a b : ℕ). a + b) (sym first) (sym count)) (page_ends s P j c.requires.page c.requires.inside);
       room = (subst (λ (k : ℕ). block_of s * k ≤ P) (sym count) (page-fits s P j c.requires.page c.requires.inside), page_small s P j c.requires.page);
     }
 
-pub overflow-mul-n : goal.overflow-mul-n
-overflow-mul-n g c =
+pub overflow_mul-n : goal.overflow_mul-n
+overflow_mul-n g c =
     let s = meaning_of c.args.section.now in
     let small = image_small s.length c.args.section.now.allowed in
-    omega (arith, c.requires.inside, small, begin_is s c.block-length-n.result (length c.args.body.now) (length c.args.page.now) c.args.j (c.block-length-n.ensures.value ∙ c.requires.parts.0) c.requires.parts.1 small c.requires.page c.requires.inside)
+    omega (arith, c.requires.inside, small, begin_is s c.block_length-n.result (length c.args.body.now) (length c.args.page.now) c.args.j (c.block_length-n.ensures.value ∙ c.requires.parts.0) c.requires.parts.1 small c.requires.page c.requires.inside)
 
-pub overflow-sub-body-3 : goal.overflow-sub-body-3
-overflow-sub-body-3 g c =
+pub overflow_sub-body-3 : goal.overflow_sub-body-3
+overflow_sub-body-3 g c =
     let s = meaning_of c.args.section.now in
     let small = image_small s.length c.args.section.now.allowed in
-    omega (arith, c.requires.inside, c.requires.parts.1, begin_is s c.block-length-n.result (length c.args.body.now) (length c.args.page.now) c.args.j (c.block-length-n.ensures.value ∙ c.requires.parts.0) c.requires.parts.1 small c.requires.page c.requires.inside)
+    omega (arith, c.requires.inside, c.requires.parts.1, begin_is s c.block_length-n.result (length c.args.body.now) (length c.args.page.now) c.args.j (c.block_length-n.ensures.value ∙ c.requires.parts.0) c.requires.parts.1 small c.requires.page c.requires.inside)
 
 pub returns : goal.returns
 returns g c =
@@ -54,22 +54,22 @@ returns g c =
     let was = c.args.page.now in
     let P = length was in
     let j = c.args.j in
-    let n = c.block-length-n.result in
-    let size = c.block-length-n.ensures.value ∙ c.requires.parts.0 in
+    let n = c.block_length-n.result in
+    let size = c.block_length-n.ensures.value ∙ c.requires.parts.0 in
     let long = c.requires.parts.1 in
     let small = image_small s.length c.args.section.now.allowed in
     let plain : ℕ → List ℕ = plain_of map s.mode s.sync body in
     let first = first-is s n (length body) P j size long small c.requires.page c.requires.inside in
     let count : c.min-count.result ≡ count_in P s j = c.min-count.ensures ∙ count-is s n (length body) P j size long small c.requires.page c.requires.inside in
     let J : List ℕ = joined plain (first_in P s j) (count_in P s j) in
-    let page = c.decipher-blocks.new.page in
-    let made : page ≡ front J was = c.decipher-blocks.ensures ∙ ap₂ (λ (a b : ℕ). front (joined plain a b) was) first count in
+    let page = c.decipher_blocks.new.page in
+    let made : page ≡ front J was = c.decipher_blocks.ensures ∙ ap₂ (λ (a b : ℕ). front (joined plain a b) was) first count in
     let ends : first_in P s j + count_in P s j ≤ block_count map.size (length body) =
     subst (λ (k : ℕ). first_in P s j + count_in P s j ≤ k) (ap₂ (λ (a b : ℕ). block_count a b) (sym c.requires.parts.0) (sym long)) (page_ends s P j c.requires.page c.requires.inside) in
     let run : length J ≡ min (block_of s * count_in P s j) (s.length - block_of s * first_in P s j) =
-    run_length map s body c.block-length-n.ensures.lawful c.requires.parts.0 long (bytes-from body (λ i. omega (arith, c.type-inv.body i))) c.args.section.now.agreed c.args.section.now.whole (first_in P s j) (count_in P s j) ends
+    run_length map s body c.block_length-n.ensures.lawful c.requires.parts.0 long (bytes-from body (λ i. omega (arith, c.type_inv.body i))) c.args.section.now.agreed c.args.section.now.whole (first_in P s j) (count_in P s j) ends
     ∙ ap₂ (λ (a b : ℕ). min (a * count_in P s j) (b - a * first_in P s j)) c.requires.parts.0 long in
-    let fits : length page ≡ P = c.decipher-blocks.auto.page in
+    let fits : length page ≡ P = c.decipher_blocks.auto.page in
     let end : c.min-end.result ≡ length J =
     c.min-end.ensures
     ∙ (ap₂ (λ (a b : ℕ). min a b) fits (ap₂ (λ (a b : ℕ). a - b) long (ap₂ (λ (a b : ℕ). a * b) size first)) ∙ (sym (page-holds s P j c.requires.page c.requires.inside) ∙ sym run)) in

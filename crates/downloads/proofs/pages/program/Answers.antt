@@ -17,46 +17,46 @@ use Rattle.downloads.proofs.Given.{parts_are, parts_from}
 use Rattle.downloads.proofs.Programmed.{page-granted, program_unsized, program-refused, program-done, made_is}
 use Rattle.downloads.proofs.pages.program.Goals as goal
 
-pub returns-then-not-good-parts : goal.returns-then-not-good-parts
-returns-then-not-good-parts g c =
+pub returns-then-not-good_parts : goal.returns-then-not-good_parts
+returns-then-not-good_parts g c =
     let s = meaning_of c.args.section.now in
     let map = g.C.BlockCipher.map c.args.cipher.now in
-    let t = g.row.T-Target.state c.args.target.now in
+    let t = g.T.Target.state c.args.target.now in
     let body = c.args.body.now in
     let marks = marks_in c.args.arrivals.now in
     let page = c.args.page.now in
     let w = program_unsized map s body marks t c.args.j page
-    (c.if-not-good-parts.ensures ∙ parts_are s c.block-length.result map.size (length body) c.blocks-2.result (length marks) (length page) c.page-length-long.result t.page_length c.block-length.ensures.value c.blocks-2.ensures c.page-length-long.ensures.value) in
+    (c.if-not-good_parts.ensures ∙ parts_are s c.block_length.result map.size (length body) c.blocks-2.result (length marks) (length page) c.page_length-long.result t.page_length c.block_length.ensures.value c.blocks-2.ensures c.page_length-long.ensures.value) in
     record { answer = told c.new.result WrongBuffer 0 Download c.new.ensures ∙ w.answer; target = w.target; page = w.page-is }
 
-pub returns-in-err-judge-page : goal.returns-in-err-judge-page
-returns-in-err-judge-page g c =
+pub returns-in_err-judge_page : goal.returns-in_err-judge_page
+returns-in_err-judge_page g c =
     let s = meaning_of c.args.section.now in
     let map = g.C.BlockCipher.map c.args.cipher.now in
-    let t = g.row.T-Target.state c.args.target.now in
+    let t = g.T.Target.state c.args.target.now in
     let body = c.args.body.now in
     let marks = marks_in c.args.arrivals.now in
     let page = c.args.page.now in
-    let w = program-refused map s body marks t c.args.j page (code_of c.in-err-judge-page.field-0.0)
-    (c.if-not-good-parts.ensures ∙ parts_are s c.block-length.result map.size (length body) c.blocks-2.result (length marks) (length page) c.page-length-long.result t.page_length c.block-length.ensures.value c.blocks-2.ensures c.page-length-long.ensures.value)
-    (c.in-err-judge-page.ensures t (sym c.page-length-long.ensures.value) (sym c.page-count.ensures)) in
-    let p = err_from_is_err_and c.from-residual.result c.from-residual.ensures.1 in
+    let w = program-refused map s body marks t c.args.j page (code_of c.in_err-judge_page.field-0.0)
+    (c.if-not-good_parts.ensures ∙ parts_are s c.block_length.result map.size (length body) c.blocks-2.result (length marks) (length page) c.page_length-long.result t.page_length c.block_length.ensures.value c.blocks-2.ensures c.page_length-long.ensures.value)
+    (c.in_err-judge_page.ensures t (sym c.page_length-long.ensures.value) (sym c.page_count.ensures)) in
+    let p = err_from_is_err_and c.from_residual.result c.from_residual.ensures.1 in
     record { answer = rw (p.1, p.2) w.answer; target = w.target; page = w.page-is }
 
 pub prepare-requires : goal.prepare-requires
 prepare-requires g c =
     let s = meaning_of c.args.section.now in
     let map = g.C.BlockCipher.map c.args.cipher.now in
-    let t = g.row.T-Target.state c.args.target.now in
+    let t = g.T.Target.state c.args.target.now in
     let body = c.args.body.now in
     let marks = marks_in c.args.arrivals.now in
     let page = c.args.page.now in
     let parts = parts_from s map.size (length body) (length marks) (length page) t.page_length
-    (sym (c.if-not-good-parts.ensures ∙ parts_are s c.block-length.result map.size (length body) c.blocks-2.result (length marks) (length page) c.page-length-long.result t.page_length c.block-length.ensures.value c.blocks-2.ensures c.page-length-long.ensures.value)) in
-    let ok = page-granted s t (copies_in (block_of s) body marks) c.args.j (sym (c.in-ok-judge-page.ensures t (sym c.page-length-long.ensures.value) (sym c.page-count.ensures))) in
+    (sym (c.if-not-good_parts.ensures ∙ parts_are s c.block_length.result map.size (length body) c.blocks-2.result (length marks) (length page) c.page_length-long.result t.page_length c.block_length.ensures.value c.blocks-2.ensures c.page_length-long.ensures.value)) in
+    let ok = page-granted s t (copies_in (block_of s) body marks) c.args.j (sym (c.in_ok-judge_page.ensures t (sym c.page_length-long.ensures.value) (sym c.page_count.ensures))) in
     record {
       parts = (parts.size, (store_parts s (length body) (length marks) parts.store).0);
-      page = ap allowed_length parts.room-is ∙ c.page-length-long.ensures.formed.sized;
+      page = ap allowed_length parts.room-is ∙ c.page_length-long.ensures.formed.sized;
       inside = subst (λ (k : ℕ). k < s.length) (ap₂ (λ (a b : ℕ). a * b) (sym c.from.ensures) (sym parts.room-is)) ok.inside;
     }
 
@@ -64,20 +64,20 @@ pub returns : goal.returns
 returns g c =
     let s = meaning_of c.args.section.now in
     let map = g.C.BlockCipher.map c.args.cipher.now in
-    let t = g.row.T-Target.state c.args.target.now in
+    let t = g.T.Target.state c.args.target.now in
     let body = c.args.body.now in
     let marks = marks_in c.args.arrivals.now in
     let page = c.args.page.now in
     let j = c.args.j in
     let right =
-    c.if-not-good-parts.ensures ∙ parts_are s c.block-length.result map.size (length body) c.blocks-2.result (length marks) (length page) c.page-length-long.result t.page_length c.block-length.ensures.value c.blocks-2.ensures c.page-length-long.ensures.value in
+    c.if-not-good_parts.ensures ∙ parts_are s c.block_length.result map.size (length body) c.blocks-2.result (length marks) (length page) c.page_length-long.result t.page_length c.block_length.ensures.value c.blocks-2.ensures c.page_length-long.ensures.value in
     let parts = parts_from s map.size (length body) (length marks) (length page) t.page_length (sym right) in
-    let judged = c.in-ok-judge-page.ensures t (sym c.page-length-long.ensures.value) (sym c.page-count.ensures) in
+    let judged = c.in_ok-judge_page.ensures t (sym c.page_length-long.ensures.value) (sym c.page_count.ensures) in
     let ok = page-granted s t (copies_in (block_of s) body marks) j (sym judged) in
     let buffer = c.prepare.new.page in
-    let made = made_is map s body marks t j page parts.size c.page-length-long.ensures.formed.sized ok (length page) c.fill.result buffer parts.room-is c.fill.ensures
+    let made = made_is map s body marks t j page parts.size c.page_length-long.ensures.formed.sized ok (length page) c.fill.result buffer parts.room-is c.fill.ensures
     (c.prepare.ensures ∙ ap (λ (k : ℕ). filled_up (length page) c.fill.result (joined (plain_of map s.mode s.sync body) (first_in (length page) s k) (count_in (length page) s k))) c.from.ensures) in
-    let place : c.from-2.result + c.from-3.result ≡ s.first_page + j = ap₂ (λ (a b : ℕ). a + b) c.from-2.ensures c.from-3.ensures in
+    let place : s.first_page + c.from-2.result ≡ s.first_page + j = ap (λ (b : ℕ). s.first_page + b) c.from-2.ensures in
     let w = program-done map s body marks t j page right judged _ _ buffer made (c.prepare.auto.page ∙ parts.room-is)
     (c.program.ensures.answer ∙ ap (λ (p : ℕ). program_answer t p (length buffer)) place) (c.program.ensures.after ∙ ap (λ (p : ℕ). programmed t p buffer) place) in
     record { answer = w.answer; target = w.target; page = w.page-is }

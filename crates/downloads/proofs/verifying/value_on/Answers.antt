@@ -14,23 +14,22 @@ use Rattle.downloads.proofs.verifying.value_on.Goals as goal
 pub loop-k-init : goal.loop-k-init
 loop-k-init g c =
     let s = meaning_of c.args.section.now in
-    let t = g.row.T-Target.state c.args.target.now in
-    let E = sixteen (rows_of c.args.table.now) c.args.tag-key.now in
+    let t = g.T.Target.state c.args.target.now in
+    let E = sixteen (rows_of c.args.table.now) c.args.tag_key.now in
     (c.new-chain.ensures.map, subst (λ (x : List ℕ). Summed s t E 0 s.length x c.args.page.now) (sym c.new-chain.ensures.state) (summed_first s t E c.requires.formed c.requires.there c.args.page.now))
 
 pub loop-k-preserved : goal.loop-k-preserved
 loop-k-preserved g c =
     let s = meaning_of c.args.section.now in
-    let t = g.row.T-Target.state c.args.target.now in
-    let E = sixteen (rows_of c.args.table.now) c.args.tag-key.now in
+    let t = g.T.Target.state c.args.target.now in
+    let E = sixteen (rows_of c.args.table.now) c.args.tag_key.now in
     let k = c.loop-k.k in
     let count = c.min-count.result in
     let was = c.loop-k.invariant in
     let page = c.read.new.out in
     let within : k < pages_for t.page_length s.length = subst (λ (n : ℕ). k < (s.length + n - 1) / n) c.requires.room c.loop-k-test.true in
-    let place : c.from.result + k ≡ s.first_page + k = ap (λ (n : ℕ). n + k) c.from.ensures in
     let read : page ≡ page_of t (s.first_page + k) =
-    c.read.ensures.out ∙ (ap (λ (n : ℕ). read_out t n c.loop-k.page) place ∙ read_is t (s.first_page + k) c.loop-k.page (omega (arith, c.requires.there, within)) (c.loop-k.auto.page ∙ c.requires.room)) in (
+    c.read.ensures.out ∙ read_is t (s.first_page + k) c.loop-k.page (omega (arith, c.requires.there, within)) (c.loop-k.auto.page ∙ c.requires.room) in (
       c.absorb.ensures.map ∙ was.0,
       summed_next s t E c.requires.formed c.requires.there k c.loop-k.left count (state_in c.loop-k.chain) (state_in c.absorb.new.self) c.loop-k.page page within was.1 read
           (c.min-count.ensures ∙ ap (min c.loop-k.left) c.requires.room)
@@ -42,13 +41,13 @@ loop-k-preserved g c =
 pub returns : goal.returns
 returns g c =
     let s = meaning_of c.args.section.now in
-    let t = g.row.T-Target.state c.args.target.now in
-    let E = sixteen (rows_of c.args.table.now) c.args.tag-key.now in
+    let t = g.T.Target.state c.args.target.now in
+    let E = sixteen (rows_of c.args.table.now) c.args.tag_key.now in
     let was = c.loop-k.invariant.1 in
     let end : (s.length + length c.args.page.now - 1) / length c.args.page.now ≡ pages_for t.page_length s.length = ap (λ (n : ℕ). (s.length + n - 1) / n) c.requires.room in
     let all : c.loop-k.k ≡ pages_for t.page_length s.length = omega (arith, end, c.loop-k-test.false, c.loop-k.auto.k-end) in
     record {
-      value = value-is (rows_of c.args.table.now) c.args.tag-key.now s (image_on s t) (state_in c.loop-k.chain) _ c.value.result
-          (summed_all s t E c.requires.formed c.requires.there c.loop-k.k c.loop-k.left (state_in c.loop-k.chain) c.loop-k.page all was) c.tag-length.ensures c.value.ensures;
+      value = value-is (rows_of c.args.table.now) c.args.tag_key.now s (image_on s t) (state_in c.loop-k.chain) _ c.value.result
+          (summed_all s t E c.requires.formed c.requires.there c.loop-k.k c.loop-k.left (state_in c.loop-k.chain) c.loop-k.page all was) c.tag_length.ensures c.value.ensures;
       page = last-read s t E c.requires.formed c.requires.there c.loop-k.k c.loop-k.left (state_in c.loop-k.chain) c.loop-k.page all (image-some s.length c.args.section.now.allowed) was;
     }

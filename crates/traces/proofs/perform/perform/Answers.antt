@@ -41,7 +41,7 @@ pub returns-in-Frame : goal.returns-in-Frame
 returns-in-Frame g c =
     let map = g.C.BlockCipher.map c.args.keys.now.cipher.now in
     let s = section_of c.args.phase in
-    let t = g.row.T-Target.state c.args.target.now in
+    let t = g.T.Target.state c.args.target.now in
     let body = c.args.body.now in
     let marks = marks_in c.args.arrivals.now in
     let page = c.args.page.now in
@@ -64,7 +64,7 @@ pub returns-in-Give : goal.returns-in-Give
 returns-in-Give g c =
     let map = g.C.BlockCipher.map c.args.keys.now.cipher.now in
     let s = section_of c.args.phase in
-    let t = g.row.T-Target.state c.args.target.now in
+    let t = g.T.Target.state c.args.target.now in
     let body = c.args.body.now in
     let marks = marks_in c.args.arrivals.now in
     let page = c.args.page.now in
@@ -82,7 +82,7 @@ pub returns-in-Erase : goal.returns-in-Erase
 returns-in-Erase g c =
     let map = g.C.BlockCipher.map c.args.keys.now.cipher.now in
     let s = section_of c.args.phase in
-    let t = g.row.T-Target.state c.args.target.now in
+    let t = g.T.Target.state c.args.target.now in
     let body = c.args.body.now in
     let marks = marks_in c.args.arrivals.now in
     let page = c.args.page.now in
@@ -90,14 +90,14 @@ returns-in-Erase g c =
     let w = setting map s (rows_of c.args.keys.now.table.now) c.args.keys.now.tag_key.now (length page) in
     let is : call_of c.args.call ≡ trace.erase c.in-Erase.erased = ap call_of c.in-Erase.is in
     let p = as_came w _ _ _ _ (trace.erase c.in-Erase.erased) (call_of c.args.call) _ is
-    (performs_erase w body marks t page c.requires.store closed c.in-Erase.erased _ (g.row.T-Target.state c.erase.new.self) (c.told-answer.ensures ∙ ap (λ r. answered r done) c.erase.ensures.answer) c.erase.ensures.after) in
+    (performs_erase w body marks t page c.requires.store closed c.in-Erase.erased _ (g.T.Target.state c.erase.new.self) (c.told-answer.ensures ∙ ap (λ r. answered r done) c.erase.ensures.answer) c.erase.ensures.after) in
     record { section = refl; marks = refl; bytes = subst OfBytes (sym is) tt; answer = p.answer; standing = p.stands; buffers = p.holds }
 
 pub returns-in-Program : goal.returns-in-Program
 returns-in-Program g c =
     let map = g.C.BlockCipher.map c.args.keys.now.cipher.now in
     let s = section_of c.args.phase in
-    let t = g.row.T-Target.state c.args.target.now in
+    let t = g.T.Target.state c.args.target.now in
     let body = c.args.body.now in
     let marks = marks_in c.args.arrivals.now in
     let page = c.args.page.now in
@@ -109,7 +109,7 @@ returns-in-Program g c =
     let fit = fit_by map c.section-of-section.result s t (rows_of c.args.keys.now.table.now) c.args.keys.now.tag_key.now (length page) c.block-length-n.ensures.lawful c.requires.size c.page-length-long.ensures.formed sec in
     let e = c.program.ensures in
     let p = as_came w _ _ _ _ (trace.program j) (call_of c.args.call) _ is
-    (performs_program w body marks t page c.requires.store fit c.byte-count-count.ensures.bytes closed j _ (g.row.T-Target.state c.program.new.target) c.program.new.page refl
+    (performs_program w body marks t page c.requires.store fit c.byte-count-count.ensures.bytes closed j _ (g.T.Target.state c.program.new.target) c.program.new.page refl
     (c.told-answer-in-Program.ensures ∙ (ap (λ r. answered r done) e.answer ∙ ap (λ (d : Described). answered (program_page_answer map d (length body) (length marks) t (copies_in (block_of d) body marks) (length page) j) done) sec))
     (e.target ∙ ap (λ (d : Described). target_programmed map d (length body) (length marks) t (copies_in (block_of d) body marks) (length page) j) sec)
     (e.page ∙ ap (λ (d : Described). buffer_after map d (length body) (length marks) t (copies_in (block_of d) body marks) j page) sec)) in
@@ -119,7 +119,7 @@ pub returns-in-Close : goal.returns-in-Close
 returns-in-Close g c =
     let map = g.C.BlockCipher.map c.args.keys.now.cipher.now in
     let s = section_of c.args.phase in
-    let t = g.row.T-Target.state c.args.target.now in
+    let t = g.T.Target.state c.args.target.now in
     let body = c.args.body.now in
     let marks = marks_in c.args.arrivals.now in
     let page = c.args.page.now in
@@ -134,7 +134,7 @@ pub returns-in-Reopen : goal.returns-in-Reopen
 returns-in-Reopen g c =
     let map = g.C.BlockCipher.map c.args.keys.now.cipher.now in
     let s = section_of c.args.phase in
-    let t = g.row.T-Target.state c.args.target.now in
+    let t = g.T.Target.state c.args.target.now in
     let body = c.args.body.now in
     let marks = marks_in c.args.arrivals.now in
     let page = c.args.page.now in
@@ -149,7 +149,7 @@ pub returns-in-Verify : goal.returns-in-Verify
 returns-in-Verify g c =
     let map = g.C.BlockCipher.map c.args.keys.now.cipher.now in
     let s = section_of c.args.phase in
-    let t = g.row.T-Target.state c.args.target.now in
+    let t = g.T.Target.state c.args.target.now in
     let body = c.args.body.now in
     let marks = marks_in c.args.arrivals.now in
     let page = c.args.page.now in

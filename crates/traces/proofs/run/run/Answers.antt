@@ -43,7 +43,7 @@ returns g c =
     let a = c.args in
     let listing = sections_in a.listing.now in
     let cipher = g.C.BlockCipher.map a.keys.now.cipher.now in
-    let t = g.row.T-Target.state a.target.now in
+    let t = g.T.Target.state a.target.now in
     let body = a.body.now in
     let marks = marks_in a.arrivals.now in
     let page = a.page.now in
@@ -56,7 +56,7 @@ returns g c =
     let p = c.run-calls.result in
     let calls = map call_of (take p.made a.calls.now) in
     let told = map answer_of (take p.made c.run-calls.new.answers) in
-    let end = stands_by s c.run-calls.new.body (marks_in c.run-calls.new.arrivals) (closed_in p.phase) (g.row.T-Target.state c.run-calls.new.target) in
+    let end = stands_by s c.run-calls.new.body (marks_in c.run-calls.new.arrivals) (closed_in p.phase) (g.T.Target.state c.run-calls.new.target) in
     let left = buffers c.run-calls.new.body (marks_in c.run-calls.new.arrivals) c.run-calls.new.page in
     let opens : (d : Described) → ◌≡◌ {A = Result Described Code} (Ok (section_of p.phase)) (Ok d) → ◌≡◌ {A = Result Described Code} (Ok s) (Ok d) = λ d q. ap Ok (sym e.section) ∙ q in
     record {
@@ -66,6 +66,6 @@ returns g c =
       rest = e.rest;
       runs = λ d q.
           for_told
-          (λ (x : Described). Runs (setting cipher x (rows_of a.keys.now.table.now) a.keys.now.tag_key.now (length page)) t (buffers body (replicate (blocks_of x) Missing) page) calls told (g.row.T-Target.state c.run-calls.new.target) (closed_in p.phase) left) s d
+          (λ (x : Described). Runs (setting cipher x (rows_of a.keys.now.table.now) a.keys.now.tag_key.now (length page)) t (buffers body (replicate (blocks_of x) Missing) page) calls told (g.T.Target.state c.run-calls.new.target) (closed_in p.phase) left) s d
           (run-whole w t fit body (marks_in c.open.new.arrivals) clean calls e.bytes told page end left e.answers e.standing e.buffers) (opens d q);
     }

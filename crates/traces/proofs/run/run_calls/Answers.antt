@@ -20,10 +20,10 @@ loop-made-preserved g c =
       rest_more c.loop-made.answers a.answers.now i c.perform-moved.result.answer was.1,
       omega (arith, c.loop-made-test.true),
       ran_more (g.C.BlockCipher.map a.keys.now.cipher.now) s (rows_of a.keys.now.table.now) a.keys.now.tag_key.now (length a.page.now)
-          (stands_by s a.body.now (marks_in a.arrivals.now) (closed_in a.phase) (g.row.T-Target.state a.target.now)) (buffers a.body.now (marks_in a.arrivals.now) a.page.now) a.calls.now
+          (stands_by s a.body.now (marks_in a.arrivals.now) (closed_in a.phase) (g.T.Target.state a.target.now)) (buffers a.body.now (marks_in a.arrivals.now) a.page.now) a.calls.now
           c.loop-made.answers i _ (section_of c.loop-made.phase) (section_of c.perform-moved.result.phase) c.loop-made.body c.perform-moved.new.body
           (marks_in c.loop-made.arrivals) (marks_in c.perform-moved.new.arrivals) c.loop-made.page c.perform-moved.new.page
-          (closed_in c.loop-made.phase) (closed_in c.perform-moved.result.phase) (g.row.T-Target.state c.loop-made.target) (g.row.T-Target.state c.perform-moved.new.target)
+          (closed_in c.loop-made.phase) (closed_in c.perform-moved.result.phase) (g.T.Target.state c.loop-made.target) (g.T.Target.state c.perform-moved.new.target)
           was.3 c.perform-moved.result.answer c.loop-made-test.true room
           e.section c.perform-moved.auto.body e.marks c.perform-moved.auto.page e.bytes e.answer e.standing e.buffers,
     )

@@ -11,4 +11,4 @@ returns-then-block-self c =
 pub returns : goal.returns
 returns c =
     let r = c.args.self.now in
-    c.has-arrived.ensures ∙ mark_at r.count r.marks c.args.block _ c.if-block-self.false (omega (arith, r.full, r.within))
+    c.has_arrived.ensures ∙ mark_at r.count r.marks c.args.block _ c.if-block-self.false (omega (arith, r.full, r.within))

@@ -3,17 +3,17 @@ use lib.ListN.{length-replicate}
 use Rattle.downloads.specs.declared.arrivals.Arrival.{Arrival}
 use Rattle.downloads.specs.declared.arrivals.Arrival.TheVariants.{Arrived}
 use Rattle.downloads.specs.Marks.{put_at, marks_in}
-use Rattle.downloads.proofs.Parts.{put_mid, put_length, put_within}
+use Rattle.downloads.proofs.Parts.{put_mid_lem, put_length, put_within}
 use Rattle.downloads.proofs.arrivals.ArrivalRecord.mark.Goals as goal
 
-pub invariant-of-self : goal.invariant-of-self
-invariant-of-self c =
+pub invariant_of-self : goal.invariant_of-self
+invariant_of-self c =
     let r = c.args.self.now in
     let first = c.args.first in
     let blocks = c.args.blocks in
     let room : first + blocks ≤ length r.marks = omega (arith, c.requires, length-take-le r.count r.marks (omega (arith, r.full, r.within)), r.full, r.within) in
     let long : length c.fill.new.self ≡ first + blocks - first = c.fill.ensures.len ∙ simp (length-take, length-drop) (omega arith) in
-    (ap length (put_mid first (first + blocks - first) r.marks c.fill.new.self (sym long)) ∙ (put_length first c.fill.new.self r.marks (omega arith) ∙ r.full), (r.within, tt))
+    record { full = ap length (put_mid_lem first (first + blocks - first) r.marks c.fill.new.self (sym long)) ∙ (put_length first c.fill.new.self r.marks (omega arith) ∙ r.full); within = r.within }
 
 pub returns : goal.returns
 returns c =
@@ -27,5 +27,5 @@ returns c =
     let filled : c.fill.new.self ≡ replicate blocks Arrived = c.fill.ensures.after (λ y e. e) ∙ ap (λ (n : ℕ). replicate n Arrived) part in
     let long : length (replicate blocks Arrived) ≡ blocks = length-replicate blocks Arrived in
     ap (take r.count)
-    (put_mid first (first + blocks - first) r.marks c.fill.new.self (size ∙ sym (ap length filled ∙ long)) ∙ ap (λ (ys : List Arrival). put_at first ys r.marks) filled)
+    (put_mid_lem first (first + blocks - first) r.marks c.fill.new.self (size ∙ sym (ap length filled ∙ long)) ∙ ap (λ (ys : List Arrival). put_at first ys r.marks) filled)
     ∙ put_within r.count first (replicate blocks Arrived) r.marks (omega arith) held

@@ -6,5 +6,5 @@ use Rattle.downloads.proofs.arrivals.ArrivalRecord.new.Goals as goal
 
 pub returns : goal.returns
 returns c =
-    let small = c.if-blocks-gt-MOST-BLOCKS.false in
+    let small = c.if-blocks-gt-MOST_BLOCKS.false in
     rw (le-leb c.args.blocks 2048 small) (ap Ok (take_equal c.args.blocks 2048 Missing small))
