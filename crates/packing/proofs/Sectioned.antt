@@ -101,20 +101,20 @@ refused_as place w image entry body e f g h k =
 
 record Passed (plan : Plan) (n : ℕ) : Type 0 where
   pub good-plan : good_plan plan ≡ true
-  pub good_length_lem : good_length plan.cipher (mode_in plan.mode) n ≡ true
+  pub fit_length : good_length plan.cipher (mode_in plan.mode) n ≡ true
 
 passed : (plan : Plan) (n : ℕ) → Ok tt ≡ done (drafted plan n) → Passed plan n
 passed plan n h =
     elim (cases_Bool (good_plan plan)) [
       | inl g ↦ elim (cases_Bool (good_length plan.cipher (mode_in plan.mode) n)) [
-        | inl l ↦ record { good-plan = g; good_length_lem = l }
+        | inl l ↦ record { good-plan = g; fit_length = l }
         | inr l ↦ absurd (let k = rw (g, l) at h in let z : ◌≡◌ {A = ℕ} 0 1 = cc in omega arith)
       ]
       | inr g ↦ absurd (let k = rw g at h in let z : ◌≡◌ {A = ℕ} 0 1 = cc in omega arith)
     ]
 
 drafted_ok : (plan : Plan) (n : ℕ) → Passed plan n → drafted plan n ≡ Ok (section_of plan n 0 0)
-drafted_ok plan n p = rw (p.good-plan, p.good_length)
+drafted_ok plan n p = rw (p.good-plan, p.fit_length)
 
 pub sealed_as : (m : Means) (place : ℕ) (w : Work) (image entry body entryAfter body_after : List ℕ) (s : Sealed) → Given w image entry body →
     SealedBy (map_of m w) (block_length w.plan.cipher) m.rows m.keys.tag image entry body (Ok tt) entryAfter body_after → length body_after ≡ length body →
@@ -124,10 +124,10 @@ sealed_as m place w image entry body entryAfter body_after s g h l e b =
     let plan = w.plan in
     let made = answer-is w image entry body g in
     let p = passed plan (length (part w)) (h.answer ∙ ap done made) in
-    let whole : part w ≡ w.image = part-whole plan.cipher (mode_in plan.mode) w p.good_length in
+    let whole : part w ≡ w.image = part-whole plan.cipher (mode_in plan.mode) w p.fit_length in
     let same : image ≡ w.image = g.image-is ∙ whole in
     let n : ℕ = length w.image in
-    let good : good_length plan.cipher (mode_in plan.mode) n ≡ true = sym (same_judged plan.cipher (mode_in plan.mode) w) ∙ p.good_length in
+    let good : good_length plan.cipher (mode_in plan.mode) n ≡ true = sym (same_judged plan.cipher (mode_in plan.mode) w) ∙ p.fit_length in
     let ok : seal_answer (block_length plan.cipher) entry (length image) (length body) ≡ Ok (section_of plan n 0 0)
     = made ∙ (drafted_ok plan (length (part w)) p ∙ ap (λ (xs : List ℕ). Ok (section_of plan (length xs) 0 0)) whole) in
     let tag : ℕ = imitovstavka m.rows m.keys.tag plan.bits w.image in

@@ -1,6 +1,6 @@
 //! Reading and judging an entry.
 
-ghost use Rattle.std.specs.Prelude.{◌≡◌, ◌+◌, ◌<◌, ◌≤◌, length};
+ghost use Rattle.std.specs.Prelude.{◌≡◌, ◌+◌, ◌≤◌, length};
 ghost use Rattle.refusals.specs.Codes.{answer};
 ghost use Rattle.sections.specs.Entries.{number, fields_of, cipher_named, mode_named, good_tag, good_sync, sync_in, good_fields, good_length, judged_fields};
 ghost use Rattle.sections.specs.Meaning.{meaning_of};
@@ -12,12 +12,11 @@ use modes::mode::{Mode, Sync};
 use refusals::{Layer, Reason, Refusal};
 
 /// The number in two bytes from a place on.
-fn read_two(bytes: &[u8], at: usize) -> u32
+fn read_two(bytes: &[u8], at: usize) -> u16
     requires { at + 2 ≤ length bytes.now }
-    ensures value { result ≡ number 2 at bytes.now }
-    ensures small { result < 65536 }
+    ensures { result ≡ number 2 at bytes.now }
 {
-    bytes[at] as u32 + bytes[at + 1] as u32 * 256
+    bytes[at] as u16 + bytes[at + 1] as u16 * 256
 }
 
 /// The number in four bytes from a place on.
@@ -41,8 +40,7 @@ fn read_eight(bytes: &[u8], at: usize) -> u64
 /// The fields of an entry.
 pub(crate) fn read_fields(entry: &[u8]) -> Fields
     requires { length entry.now ≡ 32 }
-    ensures value { result ≡ fields_of entry.now }
-    ensures small { result.first_page < 65536 }
+    ensures { result ≡ fields_of entry.now }
 {
     Fields {
         cipher: entry[0],
@@ -134,7 +132,6 @@ fn good_length(cipher: CipherKind, mode: Mode, length: u32) -> bool
 
 /// The section that the fields at a place of the table give, with where its body begins.
 pub(crate) fn judge_fields(f: Fields, place: u32, offset: u32) -> Result<Section, Refusal>
-    requires { f.first_page < 65536 }
     ensures { answer meaning_of result ≡ judged_fields place offset f }
 {
     let bad = Refusal::new(Reason::BadField, place, Layer::File);
@@ -154,7 +151,7 @@ pub(crate) fn judge_fields(f: Fields, place: u32, offset: u32) -> Result<Section
         cipher,
         mode,
         bits: f.bits,
-        first_page: f.first_page,
+        first_page: u32::from(f.first_page),
         length: f.length,
         sync: sync_in(mode, f.first, f.second),
         tag: f.tag,

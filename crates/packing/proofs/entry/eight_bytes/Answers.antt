@@ -3,4 +3,4 @@ use Rattle.blocks.proofs.Words.{long-written}
 use Rattle.packing.proofs.entry.eight_bytes.Goals as goal
 
 pub returns : goal.returns
-returns c = record { value = c.to-le-bytes.ensures ∙ long-written c.args.n; fits = omega arith }
+returns c = record { value = c.to_le_bytes.ensures ∙ long-written c.args.n; fits = omega arith }

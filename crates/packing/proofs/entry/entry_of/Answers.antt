@@ -6,13 +6,13 @@ use Rattle.packing.proofs.entry.entry_of.Goals as goal
 
 pub returns : goal.returns
 returns c = record {
-  value = entry-is c.args.plan c.args.length c.cipher-byte.result c.mode-byte.result c.sync-words-sync.result
-      c.two-bytes.result c.to-le-bytes.result c.eight-bytes.result c.eight-bytes-2.result
-      c.cipher-byte.ensures c.mode-byte.ensures c.sync-words-sync.ensures
-      c.two-bytes.ensures.value (c.to-le-bytes.ensures ∙ word-written c.args.length) c.eight-bytes.ensures.value c.eight-bytes-2.ensures.value;
+  value = entry-is c.args.plan c.args.length c.cipher_byte.result c.mode_byte.result c.sync_words-sync.result
+      c.two_bytes.result c.to_le_bytes.result c.eight_bytes.result c.eight_bytes-2.result
+      c.cipher_byte.ensures c.mode_byte.ensures c.sync_words-sync.ensures
+      c.two_bytes.ensures.value (c.to_le_bytes.ensures ∙ word-written c.args.length) c.eight_bytes.ensures.value c.eight_bytes-2.ensures.value;
   fits = record {
-    page = c.two-bytes.ensures.fits;
-    first = subst (λ (s : Sync). s.first < 256 ^ 8) c.sync-words-sync.ensures c.eight-bytes.ensures.fits;
-    second = subst (λ (s : Sync). s.second < 256 ^ 8) c.sync-words-sync.ensures c.eight-bytes-2.ensures.fits;
+    page = c.two_bytes.ensures.fits;
+    first = subst (λ (s : Sync). s.first < 256 ^ 8) c.sync_words-sync.ensures c.eight_bytes.ensures.fits;
+    second = subst (λ (s : Sync). s.second < 256 ^ 8) c.sync_words-sync.ensures c.eight_bytes-2.ensures.fits;
   };
 }

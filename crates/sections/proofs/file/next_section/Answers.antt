@@ -16,7 +16,7 @@ returns-then-at-file c =
 pub returns-in-Err : goal.returns-in-Err
 returns-in-Err c =
     sym (next-judged c.args.page_length c.args.page_count c.args.file.now c.args.i c.args.offset (map meaning_of (take c.args.i c.args.earlier.now))
-    c.read_fields-fields.result (Err (code_of c.in-Err.refusal)) c.if-at-file.false c.read_fields-fields.ensures.value c.in-Err.ensures)
+    c.read_fields-fields.result (Err (code_of c.in-Err.refusal)) c.if-at-file.false c.read_fields-fields.ensures c.in-Err.ensures)
 
 pub returns-then-end-page_count : goal.returns-then-end-page_count
 returns-then-end-page_count c =
@@ -24,7 +24,7 @@ returns-then-end-page_count c =
     let s = meaning_of c.in-Ok.section in
     let long : c.pages_end-end.result ≡ pages_end c.args.page_length s = c.pages_end-end.ensures in
     let next = next-judged c.args.page_length c.args.page_count c.args.file.now c.args.i c.args.offset earlier
-    c.read_fields-fields.result (Ok s) c.if-at-file.false c.read_fields-fields.ensures.value c.in-Ok.ensures in
+    c.read_fields-fields.result (Ok s) c.if-at-file.false c.read_fields-fields.ensures c.in-Ok.ensures in
     told c.new-then-end-page_count.result BadPages (c.args.i + 1) c.new-then-end-page_count.ensures
     ∙ sym (next ∙ (elim c.then-end-page_count.branch [
       | then-end-page_count-via-then-end-page_count w ↦ off-target c.args.page_length c.args.page_count (c.args.i + 1) earlier s (subst (λ (n : ℕ). c.args.page_count < n) long w.if-end-page_count.true)
@@ -37,5 +37,5 @@ returns c =
     let s = meaning_of c.in-Ok.section in
     let long : c.pages_end-end.result ≡ pages_end c.args.page_length s = c.pages_end-end.ensures in
     let next = next-judged c.args.page_length c.args.page_count c.args.file.now c.args.i c.args.offset earlier
-    c.read_fields-fields.result (Ok s) c.if-at-file.false c.read_fields-fields.ensures.value c.in-Ok.ensures in
+    c.read_fields-fields.result (Ok s) c.if-at-file.false c.read_fields-fields.ensures c.in-Ok.ensures in
     sym (next ∙ unshared c.args.page_length c.args.page_count (c.args.i + 1) earlier s (subst (λ (n : ℕ). n ≤ c.args.page_count) long c.if-end-page_count.false) c.if-shared.ensures)

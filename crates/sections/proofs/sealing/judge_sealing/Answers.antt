@@ -13,12 +13,12 @@ returns-then-entry-ne32 c =
 
 pub returns-then-not-good_buffers : goal.returns-then-not-good_buffers
 returns-then-not-good_buffers c =
-    let bad = subst (λ (f : Fields). false ≡ good_buffers c.args.n f c.args.image c.args.body) c.read_fields-fields.ensures.value c.if-not-good_buffers.ensures in
+    let bad = subst (λ (f : Fields). false ≡ good_buffers c.args.n f c.args.image c.args.body) c.read_fields-fields.ensures c.if-not-good_buffers.ensures in
     told c.new-wrong.result WrongBuffer 0 c.new-wrong.ensures ∙ sym (wrong-buffers c.args.n c.args.entry.now c.args.image c.args.body c.if-entry-ne32.false bad)
 
 pub returns : goal.returns
 returns c =
-    let good = subst (λ (f : Fields). true ≡ good_buffers c.args.n f c.args.image c.args.body) c.read_fields-fields.ensures.value c.if-not-good_buffers.ensures in
-    let same = c.without_tag.ensures ∙ ap untagged c.read_fields-fields.ensures.value in
+    let good = subst (λ (f : Fields). true ≡ good_buffers c.args.n f c.args.image c.args.body) c.read_fields-fields.ensures c.if-not-good_buffers.ensures in
+    let same = c.without_tag.ensures ∙ ap untagged c.read_fields-fields.ensures in
     c.judge_fields.ensures
     ∙ (ap (λ (f : Fields). judged_fields 0 0 f) same ∙ sym (judged-is c.args.n c.args.entry.now c.args.image c.args.body c.if-entry-ne32.false good))
