@@ -36,7 +36,7 @@ fn say_section(
     let length = s.length;
     let blocks = outcome.blocks.len().saturating_sub(1);
     let pages = outcome.pages.len().saturating_sub(1);
-    let first = usize::from(s.first_page);
+    let first = s.first_page as usize;
     let last = first.saturating_add(pages);
     println!(rt;
         "{script}: section {number}, {cipher} {mode}, L = {length}, blocks 0 to {blocks}, image pages 0 to {pages} on target pages {first} to {last}"
