@@ -1,9 +1,9 @@
 -- Xor of byte lists.
-use Rattle.std.proofs.Common.{◌≡◌, ℕ, zero, suc, ◌+◌, ◌^◌, ◌<◌, ◌≤◌, min, List, [], ◌∷◌, ◌++◌, length, get_or, take, set, replicate, sym, refl, ap, ◌∙◌, ap₂, inl, inr, add-one, arith}
+use Rattle.std.proofs.Common.{◌≡◌, ℕ, zero, suc, ◌+◌, ◌<◌, ◌≤◌, min, List, [], ◌∷◌, ◌++◌, length, get_or, take, set, replicate, sym, refl, ap, ◌∙◌, ap₂, inl, inr, add-one, arith}
 use lib.Bits.{bit_xor, xor_assoc, xor_self, xor_comm, xor_lt, xor_zero_l, xor_zero_r}
 use Rattle.std.proofs.lemmas.List.{take_all}
 use Rattle.std.proofs.lemmas.Bool.{cases_lt}
-use Rattle.blocks.specs.Bytes.{Bytes, Block, xored, filled}
+use Rattle.blocks.specs.Bytes.{Bytes, xored, filled}
 
 pub xored-length : (xs ys : List ℕ) → length (xored xs ys) ≡ length xs
 xored-length [] ys = refl

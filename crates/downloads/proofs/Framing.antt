@@ -1,19 +1,17 @@
 -- A frame on the blocks of a body.
-use Rattle.std.proofs.Common.{◌≡◌, ℕ, ◌+◌, ◌-◌, ◌*◌, ◌/◌, ◌%◌, ◌<◌, ◌≤◌, min, Bool, true, false, cond, not, ◌&&◌, ◌||◌, eqb, ltb, leb, ◌⊎◌, List, [], ◌++◌, length, take, drop, Some, None, Decides, Option, sym, refl, ap, ◌∙◌, ap₂, inl, inr, ⊎_elim, mul-le-mul_right, mul_comm, lt_of_mul-lt-mul_right, mul-le-mul_left, one-mul, mul-one, mul-add, arith, length-drop, length-take}
+use Rattle.std.proofs.Common.{◌≡◌, ℕ, ◌+◌, ◌-◌, ◌*◌, ◌/◌, ◌%◌, ◌<◌, ◌≤◌, min, Bool, true, false, cond, not, ◌&&◌, ◌||◌, eqb, ltb, leb, ◌⊎◌, List, ◌++◌, length, take, drop, Some, None, Option, sym, refl, ap, ◌∙◌, ap₂, inl, inr, mul-le-mul_right, mul_comm, lt_of_mul-lt-mul_right, mul-le-mul_left, one-mul, mul-one, mul-add, arith, length-drop}
 use borrow.Rule.Slice.PartMut.{put_mid}
 use Rattle.std.proofs.lemmas.Nat.{div-add-mod'}
 use Rattle.std.proofs.lemmas.List.{append-nil, take-append-le, drop-append-le, drop-drop, drop_at, drop_all, drop-take, length-take-le, take_all}
 use Rattle.std.proofs.lemmas.Slice.{take-put_mid_below, drop-put_mid}
-use Rattle.std.proofs.lemmas.Bool.{and_parts, and_cases, and_from, and_left, and_right, or_cases, eqb-true, leb-true, leb-false, ltb-true, ltb-false, le-leb, lt-leb, lt-ltb, le-ltb, cases_Bool, cases_lt, cond-true, cond-false}
-use Rattle.std.proofs.lemmas.Bool.Decides.{same_from_decides, nat_tests}
-use Rattle.std.proofs.lemmas.Slice.Eq.{bytes_eq-Decides}
+use Rattle.std.proofs.lemmas.Bool.{and_parts, and_cases, and_left, and_right, or_cases, eqb-true, leb-true, leb-false, ltb-true, ltb-false, le-leb, lt-leb, lt-ltb, le-ltb, cases_Bool, cases_lt, cond-true, cond-false}
 use Rattle.std.specs.Str.{bytes_eq}
 use Rattle.blocks.specs.Bytes.{block}
 use Rattle.modes.specs.Modes.{block_count}
 use Rattle.modes.proofs.Plain.{index_in, index_out}
-use Rattle.modes.proofs.Joined.{count_tight, count_enough}
+use Rattle.modes.proofs.Joined.{count_tight}
 use Rattle.downloads.specs.declared.arrivals.Arrival.{Arrival}
-use Rattle.downloads.specs.Marks.{arrived_at, put_at, marked_from}
+use Rattle.downloads.specs.Marks.{arrived_at}
 use Rattle.downloads.specs.Copies.{Copies, copies_in}
 use Rattle.downloads.specs.Frames.{covers, good_frame, block_in, differs, conflicts, with_frame, body_after, marks_after}
 use Rattle.downloads.proofs.Parts.{put_mid_lem}

@@ -1,6 +1,6 @@
 -- Giving a block.
-use Rattle.std.proofs.Common.{◌≡◌, ℕ, ◌+◌, ◌-◌, ◌*◌, ◌<◌, ◌≤◌, min, Bool, true, false, cond, not, ◌&&◌, eqb, ltb, leb, List, [], length, is_some, Some, None, Ok, Err, Option, Result, unwrap_or, sym, refl, ap, ◌∙◌, subst, ap₂, inl, inr, arith}
-use Rattle.std.proofs.lemmas.Bool.{cond-true, and_left, and_from, and_parts, cases_Bool, ltb-true, lt-ltb, le-leb, eqb-true, eq-eqb, not_from_true}
+use Rattle.std.proofs.Common.{◌≡◌, ℕ, ◌+◌, ◌-◌, ◌*◌, ◌<◌, ◌≤◌, min, Bool, true, false, not, ◌&&◌, eqb, ltb, List, [], length, Some, None, Ok, Err, Option, Result, unwrap_or, sym, refl, ap, ◌∙◌, subst, ap₂, arith}
+use Rattle.std.proofs.lemmas.Bool.{cond-true, and_left, and_parts, ltb-true, lt-ltb, le-leb, eqb-true, eq-eqb}
 use Rattle.refusals.specs.declared.Reason.{Reason}
 use Rattle.refusals.specs.declared.Reason.TheVariants.{BadBlock, MissingBlock, WrongBuffer}
 use Rattle.refusals.specs.declared.Layer.TheVariants.{Download}
@@ -8,19 +8,19 @@ use Rattle.refusals.specs.Codes.{Code, refuse, then, unless}
 use Rattle.blocks.specs.Bytes.{block}
 use Rattle.blocks.specs.Ciphers.{BlockMap}
 use Rattle.modes.specs.Modes.{Depends, block_count}
-use Rattle.modes.specs.Calls.{agrees, whole_in, chaining, mode_answer, plain_of, block_answer, buffer_after, front}
+use Rattle.modes.specs.Calls.{agrees, whole_in, mode_answer, plain_of, block_answer, buffer_after, front}
 use Rattle.modes.proofs.Undoing.{plain_same, depends_le}
 use Rattle.modes.proofs.Joined.{length-block}
 use Rattle.sections.specs.Entries.{Described}
 use Rattle.sections.proofs.Judged.{mode_ok}
 use Rattle.downloads.specs.declared.arrivals.Arrival.{Arrival}
 use Rattle.downloads.specs.Marks.{arrived_at, lowest, missing_from}
-use Rattle.downloads.specs.Copies.{Copies, lacks, copy_at, copies_in, refused_at, sized}
+use Rattle.downloads.specs.Copies.{Copies, lacks, copy_at, copies_in, refused_at}
 use Rattle.downloads.specs.Frames.{block_of, blocks_of, good_store}
 use Rattle.downloads.specs.Blocks.{depends, first_needed, block_bytes, plain_from, give_judged, give_answer, out_after}
 use Rattle.downloads.proofs.Lowest.{none_found}
 use Rattle.downloads.proofs.Marks.{lacks-is}
-use Rattle.downloads.proofs.Windows.{in_window, window, depends-is, needed_le, depends-test}
+use Rattle.downloads.proofs.Windows.{in_window, window, depends-is, depends-test}
 use Rattle.downloads.proofs.Answered.{store_parts, ok_cond}
 
 pub copy_is : (n : ℕ) (body : List ℕ) (marks : List Arrival) (k : ℕ) → arrived_at marks k ≡ true → copy_at (copies_in n body marks) k ≡ block n k body

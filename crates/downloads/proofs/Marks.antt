@@ -1,5 +1,5 @@
 -- Marks of an arrival record.
-use Rattle.std.proofs.Common.{◌≡◌, ℕ, ◌+◌, ◌-◌, ◌<◌, ◌≤◌, Bool, true, false, not, ◌&&◌, ◌||◌, ltb, leb, List, length, get_or, take, replicate, sym, refl, ap, ◌∙◌, inl, inr, arith, length-take, get_or-take, take_at}
+use Rattle.std.proofs.Common.{◌≡◌, ℕ, ◌+◌, ◌-◌, ◌<◌, ◌≤◌, false, not, ◌&&◌, ◌||◌, ltb, leb, List, length, get_or, take, replicate, sym, ap, ◌∙◌, inl, inr, arith, length-take, get_or-take, take_at}
 use lib.ListN.{length-replicate, get_or-replicate, get_or-eq_default, replicate-append-replicate}
 use Rattle.std.proofs.lemmas.List.{get_or_default}
 use Rattle.std.proofs.lemmas.Bool.{cases_Bool, cases_lt, lt-ltb, le-ltb, le-leb, lt-leb}

@@ -1,12 +1,12 @@
 -- Programming an image page: what the call answers and leaves.
-use Rattle.std.proofs.Common.{◌≡◌, ℕ, ◌+◌, ◌*◌, ◌<◌, ◌≤◌, Bool, true, false, ◌&&◌, eqb, ltb, List, length, Ok, Err, Result, sym, refl, ap, ◌∙◌, subst, ap₂, arith}
+use Rattle.std.proofs.Common.{◌≡◌, ℕ, ◌+◌, ◌*◌, ◌<◌, Bool, true, false, ◌&&◌, eqb, ltb, List, length, Ok, Err, Result, sym, ap, ◌∙◌, ap₂, arith}
 use Rattle.std.proofs.lemmas.Bool.{and_parts, ltb-true}
 use Rattle.refusals.specs.declared.Reason.TheVariants.{WrongBuffer, MissingBlock, NoSuchPage}
 use Rattle.refusals.specs.declared.Layer.TheVariants.{Download}
 use Rattle.refusals.specs.Codes.{Code, refuse, then, unless}
 use Rattle.blocks.specs.Ciphers.{BlockMap}
 use Rattle.description.specs.Limits.{allowed_length}
-use Rattle.modes.specs.Modes.{Depends, joined}
+use Rattle.modes.specs.Modes.{joined}
 use Rattle.modes.specs.Calls.{plain_of}
 use Rattle.modes.proofs.Joined.{joined_same}
 use Rattle.modes.proofs.Undoing.{depends_le}

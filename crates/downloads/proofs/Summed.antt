@@ -1,5 +1,5 @@
 -- The image on a target, taken in page by page.
-use Rattle.std.proofs.Common.{◌≡◌, ℕ, zero, suc, ◌+◌, ◌-◌, ◌*◌, ◌/◌, ◌%◌, ◌<◌, ◌≤◌, min, true, ◌&&◌, eqb, leb, List, [], ◌∷◌, ◌++◌, length, get_or, take, drop, sym, refl, ap, ◌∙◌, subst, ap₂, inl, inr, mul_assoc, mul_comm, mul-le-mul_left, mul-zero, mul-one, mul-add, arith, length-drop, length-take, get_or-drop, take-take, take-add}
+use Rattle.std.proofs.Common.{◌≡◌, ℕ, suc, ◌+◌, ◌-◌, ◌*◌, ◌/◌, ◌%◌, ◌<◌, ◌≤◌, min, ◌&&◌, eqb, leb, List, [], ◌∷◌, ◌++◌, length, take, drop, sym, ap, ◌∙◌, ap₂, inl, inr, mul_assoc, mul-le-mul_left, mul-zero, mul-one, mul-add, arith, length-drop, length-take, get_or-drop, take-take, take-add}
 use Rattle.std.proofs.lemmas.List.{take_all, length-take-le}
 use Rattle.std.proofs.lemmas.Bool.{and_parts, eqb-true, leb-true, lt-leb, eq-eqb, cases_lt}
 use Rattle.std.specs.List.{AllByRecursion as All}
@@ -7,8 +7,6 @@ use Rattle.blocks.specs.Bytes.{Block}
 use Rattle.gost.specs.Tables.{Rows}
 use Rattle.gost.specs.Cipher.{sixteen}
 use Rattle.imitovstavka.specs.Chain.{absorbed, start, value_of, imitovstavka}
-use Rattle.description.specs.Limits.{allowed_length}
-use Rattle.modes.specs.Modes.{block_count}
 use Rattle.modes.proofs.Joined.{count_enough}
 use Rattle.modes.proofs.Plain.{index_in}
 use Rattle.sections.specs.Images.{pages_for}

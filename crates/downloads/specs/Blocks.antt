@@ -1,5 +1,5 @@
 -- Giving a plain block.
-use Rattle.std.specs.Prelude.{ℕ, zero, suc, ◌-◌, ◌*◌, min, Bool, cond, ◌&&◌, ◌||◌, List, ◌++◌, length, Ok, Err, Result, ◌==◌, nat_lt}
+use Rattle.std.specs.Prelude.{ℕ, zero, suc, ◌-◌, ◌*◌, min, Bool, cond, ◌&&◌, ◌||◌, List, length, Ok, Err, Result, ◌==◌, nat_lt}
 use Rattle.refusals.specs.declared.Reason.TheVariants.{BadBlock, MissingBlock}
 use Rattle.refusals.specs.declared.Layer.TheVariants.{Download}
 use Rattle.refusals.specs.Codes.{Code, refuse, then, unless}

@@ -1,5 +1,5 @@
 -- Programming an image page.
-use Rattle.std.specs.Prelude.{ℕ, ◌+◌, ◌-◌, ◌*◌, ◌/◌, min, Bool, cond, not, ◌&&◌, List, ◌++◌, length, replicate, is_some, Ok, Err, Result, ◌==◌, nat_lt}
+use Rattle.std.specs.Prelude.{ℕ, ◌+◌, ◌-◌, ◌*◌, ◌/◌, min, Bool, cond, ◌&&◌, List, ◌++◌, length, replicate, is_some, Err, Result, ◌==◌, nat_lt}
 use Rattle.refusals.specs.declared.Reason.TheVariants.{MissingBlock, NoSuchPage}
 use Rattle.refusals.specs.declared.Layer.TheVariants.{Download}
 use Rattle.refusals.specs.Codes.{Code, refuse, then, unless}

@@ -1,11 +1,10 @@
 -- Verifying the image on a target.
-use Rattle.std.specs.Prelude.{ℕ, ◌+◌, ◌-◌, Bool, cond, List, [], ◌∷◌, ◌++◌, length, take, drop, Ok, Err, Result, ◌==◌, nat_le}
+use Rattle.std.specs.Prelude.{ℕ, ◌-◌, Bool, cond, List, [], ◌∷◌, ◌++◌, length, take, drop, Ok, Err, Result, ◌==◌, nat_le}
 use Rattle.refusals.specs.declared.Reason.TheVariants.{NoSuchPage}
 use Rattle.refusals.specs.declared.Layer.TheVariants.{Download}
 use Rattle.refusals.specs.Codes.{Code, refuse, then, unless}
 use Rattle.gost.specs.Tables.{Rows}
 use Rattle.imitovstavka.specs.Chain.{imitovstavka}
-use Rattle.sections.specs.Images.{pages_for}
 use Rattle.sections.specs.Entries.{Described}
 use Rattle.sections.specs.Files.{pages_end}
 use Rattle.targets.specs.State.{TargetState, page_of}

@@ -1,15 +1,14 @@
 -- Enciphering and deciphering on blocks of bytes undo each other, for every table and every key.
-use Rattle.std.proofs.Common.{◌≡◌, ℕ, ◌+◌, ◌*◌, ◌%◌, ◌^◌, ◌<◌, true, List, [], ◌∷◌, ◌++◌, reverse, length, take, drop, sym, refl, ap, ◌∙◌, ap₂, inl, arith, length-drop, length-take}
-use lib.Bits.{bit_xor, xor_lt}
-use Rattle.std.specs.List.{AllByRecursion as All}
+use Rattle.std.proofs.Common.{◌≡◌, ℕ, ◌+◌, ◌*◌, ◌%◌, ◌^◌, ◌<◌, List, [], ◌∷◌, ◌++◌, reverse, length, take, drop, sym, refl, ap, ◌∙◌, ap₂, inl, arith, length-drop, length-take}
+use lib.Bits.{xor_lt}
 use Rattle.std.proofs.ByRecursion.{All-append, All-take, All-drop}
 use Rattle.std.proofs.lemmas.List.{take-append-drop}
-use Rattle.blocks.specs.Bytes.{Bytes, Block, word, bytes_of}
-use Rattle.blocks.specs.Ciphers.{OneToOne, Undone, Lawful}
-use Rattle.blocks.proofs.Words.{word_lt, word_bytes, bytes_word, bytes_of-length, bytes_of-bytes}
+use Rattle.blocks.specs.Bytes.{Block, word, bytes_of}
+use Rattle.blocks.specs.Ciphers.{Lawful}
+use Rattle.blocks.proofs.Words.{word_lt, word_bytes, bytes_word, bytes_of-bytes}
 use Rattle.gost.specs.declared.rounds.Registers.{Registers}
 use Rattle.gost.specs.Tables.{Rows, Checked, substituted}
-use Rattle.gost.specs.Rounds.{rotated, mixed, round, swapped, rounds, closed_rounds, forward, backward, twice}
+use Rattle.gost.specs.Rounds.{mixed, round, rounds, closed_rounds, forward, backward, twice}
 use Rattle.gost.specs.Cipher.{registers, block_of, enciphered, deciphered, sixteen, gost}
 use Rattle.gost.proofs.Nibbles.{substituted_lt}
 use Rattle.gost.proofs.Feistel.{closed_is, closed-back, backward-is, forward-is}

@@ -1,6 +1,6 @@
 -- Substitution tables: eight rows of sixteen numbers from 0 to 15, the row of the lowest nibble first.
 -- A row need not be a permutation.
-use Rattle.std.specs.Prelude.{◌≡◌, ℕ, ◌+◌, ◌*◌, ◌/◌, ◌%◌, Bool, true, false, ◌&&◌, List, [], ◌∷◌, length, nat_lt, slice_index}
+use Rattle.std.specs.Prelude.{◌≡◌, ℕ, ◌+◌, ◌*◌, ◌/◌, ◌%◌, Bool, true, ◌&&◌, List, [], ◌∷◌, length, nat_lt, slice_index}
 
 abbrev pub Rows : Type 0
 Rows = List (List ℕ)

@@ -1,8 +1,8 @@
 -- Laws of the chain.
-use Rattle.std.proofs.Common.{◌≡◌, ℕ, zero, suc, ◌+◌, ◌-◌, ◌*◌, ◌/◌, ◌%◌, ◌<◌, ◌≤◌, List, [], ◌∷◌, ◌++◌, length, take, drop, sym, refl, ap, ◌∙◌, ap₂, arith, length-drop}
+use Rattle.std.proofs.Common.{◌≡◌, ℕ, zero, suc, ◌+◌, ◌-◌, ◌*◌, ◌/◌, ◌%◌, ◌≤◌, List, ◌++◌, length, take, drop, sym, refl, ap, ◌∙◌, ap₂, arith, length-drop}
 use Rattle.std.proofs.lemmas.List.{length-append, take_all, drop-drop, drop_at, take-append-le, drop-append-le, take_rest}
 use Rattle.blocks.specs.Bytes.{block, filled, xored}
-use Rattle.imitovstavka.specs.Chain.{chained, absorbed, start}
+use Rattle.imitovstavka.specs.Chain.{chained, absorbed}
 
 -- blocks of two texts, the first in whole blocks
 block-first : (xs ys : List ℕ) (i : ℕ) → 8 * i + 8 ≤ length xs → block 8 i (xs ++ ys) ≡ block 8 i xs

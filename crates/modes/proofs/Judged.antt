@@ -1,6 +1,5 @@
 -- What a mode that was accepted keeps.
-use Rattle.std.proofs.Common.{◌≡◌, ℕ, zero, suc, ◌<◌, Bool, true, false, cond, ◌⊎◌, List, ◌++◌, length, take, replicate, Some, None, Ok, Err, Option, Result, sym, refl, ap, ◌∙◌, subst, inl, inr, ⊎_elim, arith}
-use Rattle.std.specs.List.{AllByRecursion as All}
+use Rattle.std.proofs.Common.{◌≡◌, ℕ, zero, suc, ◌<◌, Bool, true, false, cond, ◌⊎◌, ◌++◌, replicate, Some, None, Ok, Err, Option, Result, sym, refl, subst, ⊎_elim, arith}
 use Rattle.std.proofs.ByRecursion.{All-append, All-take}
 use Rattle.std.proofs.lemmas.Bool.{eqb-true}
 use Rattle.refusals.specs.Codes.{Code}

@@ -1,5 +1,5 @@
 -- One block of a body deciphered.
-use Rattle.std.proofs.Common.{◌≡◌, ℕ, zero, suc, ◌+◌, ◌-◌, ◌*◌, ◌/◌, ◌<◌, ◌≤◌, min, List, ◌++◌, length, take, drop, replicate, Ok, Err, Option, Result, sym, refl, ap, ◌∙◌, subst, ap₂, inl, inr, ⊎_elim, mul_comm, mul-le-mul_left, mul-one, mul-add, arith, length-take}
+use Rattle.std.proofs.Common.{◌≡◌, ℕ, ◌+◌, ◌-◌, ◌*◌, ◌<◌, ◌≤◌, min, List, ◌++◌, length, take, drop, replicate, Ok, Err, Option, Result, sym, refl, ap, ◌∙◌, ap₂, inl, inr, ⊎_elim, mul_comm, mul-one, mul-add, arith, length-take}
 use Rattle.refusals.specs.declared.Reason.TheVariants.{WrongBuffer, BadBlock}
 use Rattle.refusals.specs.declared.Layer.TheVariants.{Download}
 use Rattle.refusals.specs.Codes.{Code, refuse}
@@ -16,7 +16,7 @@ use Rattle.modes.specs.Modes.{gamma, before, plain_by, block_count}
 use Rattle.modes.specs.Steps.{plain_step, Fits, FromSync}
 use Rattle.modes.specs.Calls.{chaining, mode_answer, block_answer, buffer_after, plain_of, front, unless}
 use Rattle.modes.specs.Laws.{Reaches}
-use Rattle.modes.proofs.Joined.{length-block, whole-all, count_tight}
+use Rattle.modes.proofs.Joined.{length-block, whole-all}
 use Rattle.modes.proofs.Judged.{judged-agrees, judged-whole, judged-sound, agrees-eight}
 use Rattle.modes.proofs.Reaching.{reaches}
 use Rattle.modes.proofs.Texts.{whole_code}

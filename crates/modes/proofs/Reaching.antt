@@ -1,12 +1,12 @@
 -- How far an altered cipher block reaches.
-use Rattle.std.proofs.Common.{◌≡◌, ℕ, zero, suc, ◌+◌, ◌*◌, ◌/◌, ◌%◌, ◌^◌, ◌<◌, ◌≤◌, ◌≢◌, ◌⊎◌, List, [], ◌∷◌, length, get_or, sym, refl, ap, ◌∙◌, subst, ap₂, inl, inr, arith}
+use Rattle.std.proofs.Common.{◌≡◌, ℕ, zero, suc, ◌+◌, ◌*◌, ◌/◌, ◌%◌, ◌^◌, ◌<◌, ◌≤◌, ◌≢◌, List, length, get_or, sym, refl, ap, ◌∙◌, subst, ap₂, inl, inr, arith}
 use lib.Bits.{bit_xor, xor_assoc, xor_self, xor_zero_l, xor_zero_r, xor_shr, xor_mod}
-use Rattle.blocks.specs.Bytes.{Bytes, Block, block, xored}
+use Rattle.blocks.specs.Bytes.{Block, block, xored}
 use Rattle.blocks.proofs.Xors.{xored-length, xored-undo, xored-back, xored_swap, get_or-xored}
 use Rattle.modes.specs.declared.mode.Mode.{Mode}
 use Rattle.modes.specs.declared.mode.Mode.TheVariants.{Codebook, Counter, Feedback}
 use Rattle.modes.specs.Modes.{Chaining, size, gamma, before, fed, cipher_by, plain_by, Depends, cipher_block, plain_block, block_count}
-use Rattle.modes.specs.Laws.{Sound, Text, bit, SameBits, InPlace, Reach, Reaches}
+use Rattle.modes.specs.Laws.{Sound, Text, bit, SameBits, InPlace, Reaches}
 use Rattle.modes.proofs.Joined.{whole-at, whole-all}
 use Rattle.modes.proofs.Undoing.{plain_same, fed-is, some_size, fed-block, sent-long, plain-sent}
 

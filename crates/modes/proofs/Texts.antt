@@ -1,7 +1,7 @@
 -- A text enciphered block by block.
-use Rattle.std.proofs.Common.{◌≡◌, ℕ, zero, suc, ◌+◌, ◌-◌, ◌*◌, ◌/◌, ◌%◌, ◌<◌, ◌≤◌, min, Bool, true, List, [], ◌++◌, length, take, drop, sym, refl, ap, ◌∙◌, subst, ap₂, mul_comm, mul-le-mul_left, mul-zero, mul-one, mul-suc, mul-add, arith, length-drop}
+use Rattle.std.proofs.Common.{◌≡◌, ℕ, suc, ◌+◌, ◌-◌, ◌*◌, ◌/◌, ◌%◌, ◌<◌, ◌≤◌, true, List, [], ◌++◌, length, take, drop, sym, refl, ap, ◌∙◌, subst, ap₂, mul_comm, mul-le-mul_left, mul-zero, mul-one, mul-add, arith, length-drop}
 use borrow.Rule.Slice.PartMut.{put_mid}
-use Rattle.std.proofs.lemmas.Nat.{div-add-mod', mod_below, le-div}
+use Rattle.std.proofs.lemmas.Nat.{div-add-mod', mod_below}
 use Rattle.std.proofs.lemmas.List.{append_assoc, append-nil, drop-drop, drop_at, take_at, drop_all, take_rest, take_all}
 use Rattle.blocks.specs.Bytes.{Bytes, Block, block, xored}
 use Rattle.blocks.specs.Ciphers.{BlockMap, Lawful}
@@ -11,7 +11,7 @@ use Rattle.modes.specs.Counters.{counters_from}
 use Rattle.modes.specs.Modes.{Chaining, size, gamma, before, fed, cipher_block, cipher_by, joined, block_count, enciphered}
 use Rattle.modes.specs.Steps.{cipher_step, Kept, FromSync}
 use Rattle.modes.specs.Calls.{whole_in}
-use Rattle.modes.specs.Laws.{Sound, Text}
+use Rattle.modes.specs.Laws.{Sound}
 use Rattle.std.proofs.lemmas.Bool.{eqb-true}
 use Rattle.modes.proofs.Joined.{length-block, joined-long, joined_more, count-whole, count_rest, count_above, whole-at}
 use Rattle.modes.proofs.Undoing.{fed-is, sent-long, some_size}

@@ -1,6 +1,5 @@
 -- Deciphering undoes enciphering, and enciphering undoes deciphering, in each mode.
-use Rattle.std.proofs.Common.{◌≡◌, ℕ, zero, suc, ◌+◌, ◌-◌, ◌*◌, ◌%◌, ◌<◌, ◌≤◌, min, ◌≢◌, ◌⊎◌, List, [], ◌∷◌, ◌++◌, length, take, drop, sym, refl, ap, ◌∙◌, subst, ap₂, inl, inr, ⊎_elim, mul-zero, arith}
-use Rattle.std.specs.List.{AllByRecursion as All}
+use Rattle.std.proofs.Common.{◌≡◌, ℕ, zero, suc, ◌+◌, ◌-◌, ◌*◌, ◌%◌, ◌<◌, ◌≤◌, min, List, length, take, drop, sym, refl, ap, ◌∙◌, subst, ap₂, inl, inr, ⊎_elim, mul-zero, arith}
 use Rattle.std.proofs.ByRecursion.{All-append}
 use Rattle.blocks.specs.Bytes.{Bytes, Block, block, xored, bytes_of, word}
 use Rattle.blocks.specs.Ciphers.{BlockMap, Lawful}
@@ -11,7 +10,7 @@ use Rattle.modes.specs.declared.mode.Mode.TheVariants.{Codebook, Counter, Feedba
 use Rattle.modes.specs.Counters.{counters, third, fourth}
 use Rattle.modes.specs.Modes.{Chaining, size, gamma, before, fed, cipher_by, plain_by, Depends, cipher_block, plain_block, block_count, joined, enciphered, deciphered}
 use Rattle.modes.specs.Laws.{Sound, Text, Undo}
-use Rattle.modes.proofs.Joined.{count_enough, count_tight, length-block, bytes-block, whole-at, whole_before, whole-all, blocks-all, joined_same, joined_bytes, joined-long, joined_at}
+use Rattle.modes.proofs.Joined.{count_enough, count_tight, length-block, bytes-block, whole_before, whole-all, blocks-all, joined_same, joined_bytes, joined-long, joined_at}
 
 pub depends_le : (mode : Mode) (i k : ℕ) → Depends mode i k → k ≤ i
 depends_le Codebook i k d = omega arith

@@ -2,7 +2,6 @@
 use Rattle.std.specs.Prelude.{◌≡◌, ℕ, suc, ◌+◌, ◌*◌, ◌/◌, ◌%◌, ◌^◌, ◌<◌, ◌≤◌, ◌≢◌, List, length, slice_index}
 use Rattle.blocks.specs.Bytes.{Bytes, Block, block}
 use Rattle.blocks.specs.Ciphers.{Lawful}
-use Rattle.modes.specs.declared.mode.Mode.{Mode}
 use Rattle.modes.specs.declared.mode.Mode.TheVariants.{Codebook, Counter, Feedback}
 use Rattle.modes.specs.Modes.{Chaining, size, block_count, Depends, cipher_block, plain_block, enciphered, deciphered}
 

@@ -1,20 +1,19 @@
 -- The entry of a plan, as listing and sealing judge it.
-use Rattle.std.proofs.Common.{◌≡◌, ℕ, ◌+◌, ◌^◌, ◌<◌, ◌≤◌, Bool, true, false, cond, ◌&&◌, eqb, ltb, leb, List, [], ◌∷◌, ◌++◌, length, Some, Ok, Err, Result, sym, refl, ap, ◌∙◌, inl, inr, arith, pow_mono}
-use Rattle.std.proofs.lemmas.Bool.{and_parts, and_from, eq-eqb, lt-ltb, leb-true, cases_Bool}
+use Rattle.std.proofs.Common.{◌≡◌, ℕ, ◌^◌, ◌<◌, ◌≤◌, Bool, true, cond, ◌&&◌, ltb, leb, length, Some, Ok, Err, Result, refl, ap, ◌∙◌, arith, pow_mono}
+use Rattle.std.proofs.lemmas.Bool.{and_parts, and_from, eq-eqb, lt-ltb, leb-true}
 use Rattle.refusals.specs.declared.Reason.TheVariants.{BadField, BadLength}
 use Rattle.refusals.specs.declared.Layer.TheVariants.{File}
 use Rattle.refusals.specs.Codes.{Code, refuse}
 use Rattle.blocks.specs.Bytes.{word, bytes_of}
 use Rattle.blocks.proofs.Words.{word_bytes}
-use Rattle.modes.specs.declared.mode.Mode.{Mode}
 use Rattle.sections.specs.declared.kind.CipherKind.{CipherKind}
 use Rattle.sections.specs.declared.kind.CipherKind.TheVariants.{Gost, Kuznyechik}
 use Rattle.sections.specs.declared.fields.Fields.{Fields}
 use Rattle.sections.specs.Images.{block_length}
-use Rattle.sections.specs.Entries.{Described, fields_of, cipher_named, mode_named, good_tag, good_sync, good_length, described, judged_as, judged_fields}
-use Rattle.sections.specs.Seals.{untagged, sized, seal_answer, tagged}
+use Rattle.sections.specs.Entries.{Described, fields_of, cipher_named, mode_named, good_tag, good_sync, good_length, described, judged_fields}
+use Rattle.sections.specs.Seals.{sized, seal_answer, tagged}
 use Rattle.sections.specs.Written.{cipher_byte, mode_byte, entry_bytes}
-use Rattle.sections.proofs.Judged.{as_named, good}
+use Rattle.sections.proofs.Judged.{as_named}
 use Rattle.packing.specs.declared.plan.PlannedMode.{PlannedMode}
 use Rattle.packing.specs.declared.plan.PlannedMode.TheVariants.{Codebook, Counter, Feedback}
 use Rattle.packing.specs.declared.plan.Plan.{Plan}

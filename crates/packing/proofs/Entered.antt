@@ -1,5 +1,5 @@
 -- The bytes of an entry.
-use Rattle.std.proofs.Common.{◌≡◌, ℕ, List, [], ◌∷◌, get_or, refl, ◌∙◌}
+use Rattle.std.proofs.Common.{◌≡◌, ℕ, List, [], ◌∷◌, get_or, refl}
 use Rattle.blocks.specs.Bytes.{bytes_of}
 use Rattle.modes.specs.declared.mode.Sync.{Sync}
 use Rattle.sections.specs.declared.kind.CipherKind.{CipherKind}

@@ -1,12 +1,11 @@
 -- What sealing a planned section comes to.
-use Rattle.std.proofs.Common.{◌≡◌, ℕ, ◌<◌, ◌≤◌, Bool, true, false, cond, ◌&&◌, leb, List, length, take, Ok, Err, vec_items, Result, sym, refl, ap, ◌∙◌, subst, ap₂, inl, inr, arith, length-take}
+use Rattle.std.proofs.Common.{◌≡◌, ℕ, ◌<◌, ◌≤◌, Bool, true, false, cond, leb, List, length, take, Ok, Err, vec_items, Result, sym, refl, ap, ◌∙◌, subst, ap₂, inl, inr, arith, length-take}
 use Rattle.std.proofs.lemmas.List.{take_all}
 use Rattle.std.proofs.lemmas.Bool.{cases_Bool, cases_lt, and_parts, leb-true, lt-leb, and_left, and_right}
 use Rattle.refusals.specs.declared.Reason.TheVariants.{BadField, BadLength}
 use Rattle.refusals.specs.declared.Layer.TheVariants.{File}
 use Rattle.refusals.specs.declared.Refusal.{Refusal}
-use Rattle.refusals.specs.Codes.{Code, refuse, code_of, outcome}
-use Rattle.blocks.specs.Ciphers.{BlockMap}
+use Rattle.refusals.specs.Codes.{Code, refuse, code_of}
 use Rattle.imitovstavka.specs.Chain.{imitovstavka}
 use Rattle.modes.specs.declared.mode.Mode.{Mode}
 use Rattle.modes.specs.Calls.{whole_in}

@@ -9,7 +9,7 @@ use Rattle.sections.specs.declared.fields.Fields.{Fields}
 use Rattle.sections.specs.declared.section.Section.{Section}
 use Rattle.sections.specs.Images.{allowed_image}
 use Rattle.sections.specs.Entries.{Described, fields_of, judged_fields}
-use Rattle.sections.specs.Files.{pages_end, shares, shares_any, paged, then, entry_of, next_section, listed_from, good_header, bodies_from, listed, section_at, asked}
+use Rattle.sections.specs.Files.{pages_end, shares, shares_any, paged, then, entry_of, next_section, listed_from, good_header, bodies_from, listed, section_at}
 use Rattle.sections.specs.Meaning.{meaning_of}
 
 -- ---- shared pages

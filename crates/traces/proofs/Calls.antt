@@ -1,6 +1,6 @@
 -- What each call answers and does, by the definitions that the contracts of downloads and targets cite:
 -- one lemma for the answer and one for the step.
-use Rattle.std.proofs.Common.{◌≡◌, ℕ, zero, suc, ◌+◌, ◌%◌, ◌<◌, Bool, true, false, cond, not, ◌&&◌, eqb, ltb, List, length, take, replicate, Some, None, Ok, Err, Result, sym, refl, ap, ◌∙◌, ap₂}
+use Rattle.std.proofs.Common.{◌≡◌, ℕ, zero, suc, ◌+◌, ◌%◌, ◌<◌, Bool, true, false, cond, not, ◌&&◌, eqb, ltb, List, length, replicate, Some, None, Ok, Err, Result, sym, refl, ap, ◌∙◌, ap₂}
 use Rattle.std.proofs.lemmas.List.{take_at}
 use Rattle.std.proofs.lemmas.Bool.{cond-true, cond-false, and_from, eq-eqb, ltb-true}
 use Rattle.refusals.specs.declared.Reason.TheVariants.{WrongBuffer, BadBlock}
@@ -17,7 +17,7 @@ use Rattle.downloads.specs.Frames.{block_of, blocks_of, good_store, frame_judged
 use Rattle.downloads.specs.Blocks.{block_bytes, plain_from, give_judged, give_answer, out_after}
 use Rattle.downloads.specs.Pages.{prepared_on, page_judged, page_answer, program_page_answer, target_programmed}
 use Rattle.downloads.specs.Verdicts.{verify_judged, good_on, verify_answer}
-use Rattle.traces.specs.Traces.{Setting, Call, frame, give, erase, program, close, reopen, verify, Answer, done, plain, verdict, refused, Standing, standing, built, judged, effect, answered, step, answer_to}
+use Rattle.traces.specs.Traces.{Setting, Call, frame, give, erase, program, close, reopen, verify, done, plain, verdict, Standing, standing, built, judged, effect, answered, step, answer_to}
 use Rattle.traces.specs.Answers.{given_as, verdict_as}
 use Rattle.traces.specs.Promise.{Fit}
 use Rattle.traces.proofs.Outcomes.{by_effect, answer-built, answer-is, cond_ok}

@@ -1,9 +1,7 @@
 -- A trace that was run from an opened download.
-use Rattle.std.proofs.Common.{◌≡◌, ℕ, Bool, true, false, cond, ◌&&◌, eqb, List, length, replicate, Ok, Err, Result, sym, refl, ap, ◌∙◌, subst, ap₂, arith}
+use Rattle.std.proofs.Common.{◌≡◌, ℕ, true, false, ◌&&◌, eqb, List, length, replicate, Ok, Err, Result, sym, ap, ◌∙◌, subst, ap₂, arith}
 use Rattle.std.proofs.lemmas.Bool.{and_parts, eqb-true}
 use Rattle.refusals.specs.Codes.{Code, then, unless}
-use Rattle.blocks.specs.Ciphers.{BlockMap}
-use Rattle.gost.specs.Tables.{Rows}
 use Rattle.sections.specs.Entries.{Described}
 use Rattle.sections.specs.Files.{section_at, asked}
 use Rattle.targets.specs.State.{TargetState}
@@ -15,7 +13,7 @@ use Rattle.downloads.proofs.Answered.{ok_sized, store_parts}
 use Rattle.traces.specs.Traces.{Setting, Call, Answer, Standing, standing, begun, run, answers_of, AllOfBytes}
 use Rattle.traces.specs.Promise.{Fit, Promise, target_after, closed_after}
 use Rattle.traces.specs.Buffers.{Buffers, buffers, buffers_after}
-use Rattle.traces.specs.Runs.{setting, stands_by, Runs}
+use Rattle.traces.specs.Runs.{stands_by, Runs}
 use Rattle.traces.proofs.Promised.{promise-holds}
 use Rattle.traces.proofs.Told.{stands_as_told}
 use Rattle.traces.proofs.Calls.{cleared}

@@ -1,5 +1,5 @@
 -- A block that was given, taken from its buffer.
-use Rattle.std.proofs.Common.{◌≡◌, ℕ, ◌-◌, ◌*◌, ◌≤◌, min, List, ◌++◌, length, take, replicate, Ok, Err, Result, sym, refl, ap, ◌∙◌, ap₂, arith}
+use Rattle.std.proofs.Common.{◌≡◌, ℕ, ◌-◌, ◌≤◌, List, ◌++◌, length, take, replicate, Ok, Err, Result, sym, ap, ◌∙◌, ap₂, arith}
 use lib.ListN.{length-replicate}
 use lib.Seq.{take-append-le}
 use Rattle.refusals.specs.Codes.{Code, then}

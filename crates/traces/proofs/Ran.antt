@@ -1,16 +1,14 @@
 -- A loop over the calls of a trace.
-use Rattle.std.proofs.Common.{◌≡◌, ℕ, suc, ◌+◌, ◌<◌, ◌≤◌, Bool, true, false, ◌&&◌, ◌⊎◌, List, [], ◌∷◌, ◌++◌, map, length, get_or, take, drop, set, Ok, Err, Result, sym, refl, ap, ◌∙◌, subst, ap₂, inl, inr, arith}
+use Rattle.std.proofs.Common.{◌≡◌, ℕ, suc, ◌+◌, ◌<◌, ◌≤◌, Bool, true, false, ◌&&◌, ◌⊎◌, List, [], ◌∷◌, ◌++◌, map, length, get_or, take, drop, set, sym, refl, ap, ◌∙◌, subst, ap₂, inl, inr, arith}
 use lib.ListN.{length-map}
 use Rattle.std.proofs.lemmas.List.{map_more, map-set, get_or-set_same, get_or-set_other, drop-drop, drop-set-lt}
 use Rattle.std.proofs.lemmas.Bool.{cases_eq, and_parts, false≢true}
-use Rattle.refusals.specs.Codes.{Code, unless}
 use Rattle.blocks.specs.Ciphers.{BlockMap}
 use Rattle.gost.specs.Tables.{Rows}
 use Rattle.sections.specs.Entries.{Described}
 use Rattle.targets.specs.State.{TargetState}
 use Rattle.downloads.specs.declared.arrivals.Arrival.{Arrival}
-use Rattle.downloads.specs.Copies.{copies_in}
-use Rattle.downloads.specs.Frames.{block_of, good_store, frame_answer, marks_after}
+use Rattle.downloads.specs.Frames.{good_store}
 use Rattle.traces.specs.declared.call.Call.{Call as CodeCall}
 use Rattle.traces.specs.declared.call.Answer.{Answer as CodeAnswer}
 use Rattle.traces.specs.Traces.{Setting, Call, Standing, run, step, answer_to, answers_of, OfBytes, AllOfBytes, not_built, is_refused}

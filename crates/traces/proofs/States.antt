@@ -1,11 +1,11 @@
 -- Erasing, closing and reopening.
-use Rattle.std.proofs.Common.{◌≡◌, ℕ, ◌+◌, ◌<◌, ◌≤◌, Bool, true, false, not, leb, List, is_some, Some, None, Ok, Err, Option, Result, sym, refl, ap, ◌∙◌, subst, ap₂, inl, inr, arith}
+use Rattle.std.proofs.Common.{◌≡◌, ℕ, ◌<◌, false, not, List, is_some, Some, None, Ok, Err, Option, sym, refl, ap, ◌∙◌, inl, inr, arith}
 use Rattle.std.proofs.lemmas.Bool.{cases_lt, cases_Bool, lt-leb, le-leb, not-true, not-false, both_ways, false≢true}
 use Rattle.refusals.specs.declared.Reason.TheVariants.{MissingBlock, NoSuchPage, LockedPage}
 use Rattle.refusals.specs.declared.Layer.TheVariants.{Download, Target}
 use Rattle.refusals.specs.Codes.{Code, refuse}
 use Rattle.targets.specs.State.{TargetState, is_locked}
-use Rattle.targets.specs.Calls.{refused_if, erase_answer}
+use Rattle.targets.specs.Calls.{erase_answer}
 use Rattle.downloads.specs.Marks.{lowest}
 use Rattle.downloads.specs.Copies.{Copies, Has, lacks, refused_at}
 use Rattle.downloads.specs.Frames.{blocks_of}

@@ -1,7 +1,6 @@
 -- What the buffers of a trace hold.
-use Rattle.std.specs.Prelude.{ℕ, Bool, cond, List, [], ◌∷◌, ◌==◌}
+use Rattle.std.specs.Prelude.{ℕ, cond, List, [], ◌∷◌, ◌==◌}
 use Rattle.refusals.specs.Codes.{unless}
-use Rattle.targets.specs.State.{TargetState}
 use Rattle.downloads.specs.declared.arrivals.Arrival.{Arrival}
 use Rattle.downloads.specs.Copies.{sized}
 use Rattle.downloads.specs.Frames.{block_of, body_after, marks_after}

@@ -1,4 +1,4 @@
-use Rattle.std.proofs.Common.{◌≡◌, ℕ, ◌+◌, ◌-◌, ◌*◌, ◌/◌, ◌<◌, ◌≤◌, length, sym, refl, ap, ◌∙◌, arith}
+use Rattle.std.proofs.Common.{◌≡◌, ℕ, ◌+◌, ◌-◌, ◌*◌, ◌/◌, length, ap, ◌∙◌, arith}
 use Rattle.description.specs.Meaning.{meaning_of}
 use Rattle.support.specs.Images.{pages_for}
 use Rattle.support.proofs.Reporting.{pages-counted, image-fits, blocks_are, reported}

@@ -1,4 +1,4 @@
-use Rattle.std.proofs.Common.{◌≡◌, ℕ, ◌+◌, ◌-◌, ◌*◌, ◌<◌, ◌≤◌, Bool, not, List, length, sym, ap, ◌∙◌, subst, ap₂, mul-le-mul_left, arith, rules}
+use Rattle.std.proofs.Common.{◌≡◌, ℕ, ◌+◌, ◌-◌, ◌*◌, ◌<◌, not, List, length, sym, ap, ◌∙◌, subst, ap₂, arith}
 use Rattle.std.specs.Str.{bytes_eq}
 use Rattle.blocks.specs.Bytes.{block}
 use Rattle.downloads.specs.Marks.{marks_in}

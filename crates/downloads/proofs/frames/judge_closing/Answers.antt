@@ -5,9 +5,9 @@ use Rattle.sections.specs.Entries.{Described}
 use Rattle.sections.specs.Meaning.{meaning_of}
 use Rattle.downloads.specs.declared.arrivals.Arrival.{Arrival}
 use Rattle.downloads.specs.Marks.{marks_in, lowest, missing_from}
-use Rattle.downloads.specs.Copies.{copies_in, lacks, refused_at}
+use Rattle.downloads.specs.Copies.{copies_in, refused_at}
 use Rattle.downloads.specs.Frames.{block_of, blocks_of, good_store, close_answer}
-use Rattle.downloads.proofs.Marks.{marks_few, lacks_are}
+use Rattle.downloads.proofs.Marks.{lacks_are}
 use Rattle.downloads.proofs.Answered.{told, store_parts, close_unsized, close-found}
 use Rattle.downloads.proofs.frames.judge_closing.Goals as goal
 

@@ -1,4 +1,4 @@
-use Rattle.std.proofs.Common.{◌≡◌, ℕ, Bool, true, false, List, length, Some, None, Option, sym, ap, ◌∙◌, subst, ap₂}
+use Rattle.std.proofs.Common.{◌≡◌, ℕ, true, List, length, Some, None, Option, sym, ap, ◌∙◌, ap₂}
 use Rattle.refusals.specs.declared.Reason.TheVariants.{WrongBuffer, BadBlock, Conflict}
 use Rattle.refusals.specs.declared.Layer.TheVariants.{Download}
 use Rattle.modes.specs.Modes.{block_count}

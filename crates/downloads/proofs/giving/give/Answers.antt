@@ -1,4 +1,4 @@
-use Rattle.std.proofs.Common.{◌≡◌, true, false, length, Ok, Err, sym, ap, ◌∙◌}
+use Rattle.std.proofs.Common.{length, ◌∙◌}
 use Rattle.std.proofs.lemmas.Result.{err_from_is_err_and}
 use Rattle.refusals.specs.declared.Reason.TheVariants.{WrongBuffer}
 use Rattle.refusals.specs.declared.Layer.TheVariants.{Download}
@@ -7,7 +7,6 @@ use Rattle.sections.specs.Meaning.{meaning_of}
 use Rattle.downloads.specs.Marks.{marks_in}
 use Rattle.downloads.specs.Copies.{copies_in}
 use Rattle.downloads.specs.Frames.{block_of}
-use Rattle.downloads.specs.Blocks.{give_judged}
 use Rattle.downloads.proofs.Answered.{told}
 use Rattle.downloads.proofs.Given.{parts_are, give_unsized, give-refused, given_is}
 use Rattle.downloads.proofs.giving.give.Goals as goal

@@ -1,4 +1,4 @@
-use Rattle.std.proofs.Common.{◌≡◌, ℕ, ◌+◌, ◌-◌, ◌*◌, ◌<◌, ◌≤◌, List, length, take, drop, sym, ap, ◌∙◌, subst, ap₂, mul-le-mul_left, mul-one, mul-add, arith}
+use Rattle.std.proofs.Common.{◌≡◌, ℕ, ◌+◌, ◌-◌, ◌*◌, ◌<◌, ◌≤◌, length, take, drop, sym, subst, ap₂, mul-le-mul_left, mul-one, mul-add, arith}
 use borrow.Rule.Slice.PartMut.{put_mid}
 use Rattle.blocks.proofs.Words.{bytes-from}
 use Rattle.modes.specs.Modes.{block_count, joined}

@@ -1,4 +1,4 @@
-use Rattle.std.proofs.Common.{◌≡◌, length}
+use Rattle.std.proofs.Common.{◌≡◌}
 use Rattle.modes.specs.Modes.{joined}
 use Rattle.modes.specs.Calls.{plain_of, front}
 use Rattle.downloads.proofs.pages.decipher_blocks.Given as goal

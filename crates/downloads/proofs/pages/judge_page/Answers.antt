@@ -1,4 +1,4 @@
-use Rattle.std.proofs.Common.{◌≡◌, ℕ, ◌+◌, ◌*◌, ◌/◌, ◌<◌, min, Some, None, sym, ap, ◌∙◌, subst, ap₂, arith}
+use Rattle.std.proofs.Common.{◌≡◌, ℕ, ◌+◌, ◌*◌, ◌/◌, ◌<◌, min, Some, None, ap, ◌∙◌, subst}
 use Rattle.refusals.specs.declared.Reason.TheVariants.{MissingBlock}
 use Rattle.refusals.specs.declared.Layer.TheVariants.{Download}
 use Rattle.sections.specs.Meaning.{meaning_of}

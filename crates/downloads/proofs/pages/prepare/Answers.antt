@@ -1,4 +1,4 @@
-use Rattle.std.proofs.Common.{◌≡◌, ℕ, ◌+◌, ◌-◌, ◌*◌, ◌/◌, ◌<◌, ◌≤◌, min, List, length, take, drop, replicate, sym, ap, ◌∙◌, subst, ap₂, arith, length-drop, length-take}
+use Rattle.std.proofs.Common.{◌≡◌, ℕ, ◌+◌, ◌-◌, ◌*◌, ◌≤◌, min, List, length, take, drop, replicate, sym, ap, ◌∙◌, subst, ap₂, arith, length-drop, length-take}
 use Rattle.blocks.proofs.Words.{bytes-from}
 use Rattle.modes.specs.Modes.{block_count, joined}
 use Rattle.modes.specs.Calls.{plain_of, front}
@@ -6,7 +6,7 @@ use Rattle.sections.specs.Meaning.{meaning_of}
 use Rattle.downloads.specs.Frames.{block_of, blocks_of}
 use Rattle.downloads.specs.Pages.{first_in, count_in}
 use Rattle.downloads.proofs.Answered.{image_small}
-use Rattle.downloads.proofs.Prepared.{run_length, fill_rest, page_small, page_starts, page_ends, page-fits, page-holds, first-is, first_low, count-is, begin_is, first_small}
+use Rattle.downloads.proofs.Prepared.{run_length, fill_rest, page_small, page_ends, page-fits, page-holds, first-is, first_low, count-is, begin_is, first_small}
 use Rattle.downloads.proofs.pages.prepare.Goals as goal
 
 pub overflow_sub-body-2 : goal.overflow_sub-body-2

@@ -1,11 +1,10 @@
-use Rattle.std.proofs.Common.{◌≡◌, ℕ, ◌+◌, ◌-◌, ◌/◌, ◌%◌, ◌<◌, min, List, ◌++◌, length, take, sym, refl, ap, ◌∙◌, subst, ap₂, arith}
+use Rattle.std.proofs.Common.{◌≡◌, ℕ, ◌+◌, ◌-◌, ◌/◌, ◌<◌, min, List, ◌++◌, length, take, sym, ap, ◌∙◌, subst, arith}
 use Rattle.gost.specs.Cipher.{rows_of, sixteen}
 use Rattle.imitovstavka.specs.Chain.{absorbed, start}
-use Rattle.imitovstavka.specs.Parts.{map_in, state_in}
+use Rattle.imitovstavka.specs.Parts.{state_in}
 use Rattle.sections.specs.Images.{pages_for}
 use Rattle.sections.specs.Meaning.{meaning_of}
 use Rattle.targets.specs.State.{page_of}
-use Rattle.targets.specs.Calls.{read_out}
 use Rattle.downloads.specs.Verdicts.{image_on}
 use Rattle.downloads.proofs.Answered.{image-some}
 use Rattle.downloads.proofs.Summed.{Summed, summed_first, summed_next, summed_all, last-read, read_is, value-is}

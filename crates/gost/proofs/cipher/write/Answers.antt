@@ -1,4 +1,4 @@
-use Rattle.std.proofs.Common.{◌≡◌, ℕ, List, ◌++◌, ◌∙◌, ap₂}
+use Rattle.std.proofs.Common.{ℕ, List, ◌++◌, ◌∙◌, ap₂}
 use Rattle.blocks.proofs.Spelled.{spelled}
 use Rattle.blocks.proofs.Words.{word-written}
 use Rattle.gost.specs.Cipher.{block_of}

@@ -1,4 +1,4 @@
-use Rattle.std.proofs.Common.{◌≡◌, ℕ, ◌+◌, ◌-◌, ◌*◌, ◌<◌, ◌≤◌, List, length, take, drop, sym, refl, ap, ◌∙◌, subst, ap₂, arith, rules}
+use Rattle.std.proofs.Common.{◌≡◌, ℕ, ◌+◌, ◌*◌, ◌<◌, ◌≤◌, List, length, sym, refl, ap, ◌∙◌, subst, ap₂, arith, rules}
 use Rattle.blocks.specs.Bytes.{Block, block}
 use Rattle.modes.specs.declared.mode.Mode.TheVariants.{Feedback}
 use Rattle.modes.specs.Calls.{sync_bytes}

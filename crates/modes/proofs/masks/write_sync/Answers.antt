@@ -1,4 +1,4 @@
-use Rattle.std.proofs.Common.{◌≡◌, ℕ, List, ◌++◌, length, Some, sym, ap, ◌∙◌, ap₂, ⊎_elim, arith}
+use Rattle.std.proofs.Common.{◌≡◌, ℕ, List, ◌++◌, length, sym, ◌∙◌, ap₂, ⊎_elim}
 use Rattle.blocks.specs.Bytes.{bytes_of}
 use Rattle.blocks.proofs.Spelled.{spelled}
 use Rattle.blocks.proofs.Words.{long-written}

@@ -1,7 +1,6 @@
-use Rattle.std.proofs.Common.{◌≡◌, ℕ, ◌+◌, ◌*◌, ◌/◌, ◌%◌, ◌≤◌, List, [], length, sym, refl, ap, ◌∙◌, subst, arith}
+use Rattle.std.proofs.Common.{◌≡◌, ℕ, ◌/◌, ◌%◌, [], length, sym, refl, ◌∙◌, subst, arith}
 use Rattle.modes.specs.Modes.{Chaining}
 use Rattle.modes.specs.Steps.{Kept}
-use Rattle.modes.specs.Laws.{Sound}
 use Rattle.modes.proofs.Texts.{Begun, Held, sound, room, front-room, turn, last, all}
 use Rattle.modes.proofs.text.encipher_blocks.Goals as goal
 

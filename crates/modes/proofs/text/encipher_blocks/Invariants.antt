@@ -1,5 +1,4 @@
 use Rattle.std.proofs.Common.{◌≡◌, ℕ, List, length}
-use Rattle.modes.specs.Modes.{Chaining}
 use Rattle.modes.proofs.Texts.{Begun, Held}
 use Rattle.modes.proofs.text.encipher_blocks.Given as goal
 

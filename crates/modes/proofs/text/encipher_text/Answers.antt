@@ -1,4 +1,4 @@
-use Rattle.std.proofs.Common.{◌≡◌, ℕ, List, length, Ok, Result, sym, ap, ◌∙◌, ap₂}
+use Rattle.std.proofs.Common.{◌≡◌, ℕ, length, Ok, Result, ap, ◌∙◌, ap₂}
 use Rattle.refusals.specs.Codes.{Code}
 use Rattle.modes.specs.Modes.{enciphered}
 use Rattle.modes.specs.Calls.{chaining, mode_answer, unless}

@@ -1,4 +1,4 @@
-use Rattle.std.proofs.Common.{◌≡◌, ℕ, ◌≤◌, length, sym, ap, ◌∙◌, subst}
+use Rattle.std.proofs.Common.{ℕ, ◌≤◌, length, sym, subst}
 use Rattle.sections.specs.Meaning.{meaning_of}
 use Rattle.downloads.specs.Marks.{marks_in}
 use Rattle.downloads.specs.Copies.{copies_in}

@@ -1,5 +1,4 @@
-use Rattle.std.proofs.Common.{◌≡◌, ℕ, Bool, true, List, length, Ok, sym, refl, ap, ◌∙◌, subst, ap₂}
-use Rattle.refusals.specs.Codes.{outcome}
+use Rattle.std.proofs.Common.{◌≡◌, ℕ, Bool, List, length, Ok, sym, refl, ap, ◌∙◌, subst}
 use Rattle.blocks.specs.Ciphers.{BlockMap, Lawful}
 use Rattle.gost.specs.Tables.{Rows}
 use Rattle.gost.specs.Cipher.{rows_of}
@@ -9,7 +8,6 @@ use Rattle.sections.specs.Entries.{Described}
 use Rattle.sections.specs.Meaning.{meaning_of}
 use Rattle.sections.proofs.Judged.{mode_ok}
 use Rattle.targets.specs.State.{TargetState, WellFormed}
-use Rattle.downloads.specs.declared.arrivals.Arrival.{Arrival}
 use Rattle.downloads.specs.Marks.{marks_in}
 use Rattle.downloads.specs.Copies.{copies_in}
 use Rattle.downloads.specs.Frames.{block_of}
@@ -19,7 +17,7 @@ use Rattle.traces.specs.Traces.{Setting, Standing, step, answer_to, answered, do
 use Rattle.traces.specs.Answers.{given_by}
 use Rattle.traces.specs.Promise.{Fit}
 use Rattle.traces.specs.Meaning.{call_of, section_of, closed_in}
-use Rattle.traces.specs.Buffers.{Buffers, buffers, after}
+use Rattle.traces.specs.Buffers.{Buffers}
 use Rattle.traces.specs.Runs.{setting, stands_by}
 use Rattle.traces.proofs.Performed.{Performs, marks-kept, performs_frame, performs_erase, performs_close, performs_reopen, performs_verify, performs_give, performs_program}
 use Rattle.traces.proofs.perform.perform.Goals as goal

@@ -1,21 +1,20 @@
-use Rattle.std.proofs.Common.{◌≡◌, ℕ, Bool, eqb, List, map, length, take, replicate, Ok, Err, Result, sym, refl, ap, ◌∙◌, subst, ap₂, arith}
+use Rattle.std.proofs.Common.{◌≡◌, ℕ, Bool, map, length, take, replicate, Ok, Err, Result, sym, ap, ◌∙◌, subst, arith}
 use lib.ListN.{length-replicate}
 use Rattle.std.proofs.lemmas.Bool.{eq-eqb}
 use Rattle.refusals.specs.Codes.{Code}
 use Rattle.gost.specs.Cipher.{rows_of}
 use Rattle.sections.specs.Entries.{Described}
 use Rattle.sections.specs.Meaning.{sections_in}
-use Rattle.downloads.specs.declared.arrivals.Arrival.{Arrival}
 use Rattle.downloads.specs.declared.arrivals.Arrival.TheVariants.{Missing}
 use Rattle.downloads.specs.Marks.{marks_in}
 use Rattle.downloads.specs.Copies.{sized}
-use Rattle.downloads.specs.Frames.{block_of, blocks_of, good_store, open_answer}
+use Rattle.downloads.specs.Frames.{blocks_of, good_store, open_answer}
 use Rattle.downloads.specs.States.{receiving_of}
 use Rattle.downloads.proofs.Answered.{store_parts}
 use Rattle.traces.specs.Meaning.{call_of, answer_of, section_of, closed_in}
 use Rattle.traces.specs.Promise.{Fit}
 use Rattle.traces.specs.Buffers.{buffers}
-use Rattle.traces.specs.Runs.{setting, stands_by, Runs, Unchanged, Ends}
+use Rattle.traces.specs.Runs.{setting, stands_by, Runs, Ends}
 use Rattle.traces.proofs.Ended.{opened, record_cleared, run-whole}
 use Rattle.traces.proofs.run.run.Goals as goal
 

@@ -1,10 +1,10 @@
-use Rattle.std.proofs.Common.{◌≡◌, ◌<◌, Bool, false, length, sym, refl, ap, ◌∙◌, subst, ap₂, arith, rules}
+use Rattle.std.proofs.Common.{◌<◌, Bool, false, length, subst, arith}
 use Rattle.gost.specs.Cipher.{rows_of}
 use Rattle.downloads.specs.Marks.{marks_in}
 use Rattle.traces.specs.Meaning.{section_of, closed_in}
 use Rattle.traces.specs.Buffers.{buffers}
-use Rattle.traces.specs.Runs.{setting, stands_by}
-use Rattle.traces.proofs.Ran.{Ran, Halts, ran_more, halts_more, rest_more}
+use Rattle.traces.specs.Runs.{stands_by}
+use Rattle.traces.proofs.Ran.{Halts, ran_more, halts_more, rest_more}
 use Rattle.traces.proofs.run.run_calls.Goals as goal
 
 pub loop-made-preserved : goal.loop-made-preserved

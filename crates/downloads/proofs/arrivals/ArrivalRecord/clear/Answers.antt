@@ -1,4 +1,4 @@
-use Rattle.std.proofs.Common.{◌≡◌, ℕ, ◌≤◌, length, replicate, sym, ap, ◌∙◌, arith, length-take-le}
+use Rattle.std.proofs.Common.{ℕ, replicate, sym, ap, ◌∙◌, arith, length-take-le}
 use Rattle.downloads.specs.declared.arrivals.Arrival.TheVariants.{Missing}
 use Rattle.downloads.proofs.Marks.{take_equal}
 use Rattle.downloads.proofs.arrivals.ArrivalRecord.clear.Goals as goal

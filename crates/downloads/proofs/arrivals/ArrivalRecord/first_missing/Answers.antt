@@ -1,5 +1,5 @@
-use Rattle.std.proofs.Common.{◌≡◌, ℕ, ◌+◌, ◌-◌, ◌<◌, ◌≤◌, Bool, not, sym, ap, ◌∙◌, inl, inr, arith, rules}
-use Rattle.std.proofs.lemmas.Bool.{cases_lt, cases_eq}
+use Rattle.std.proofs.Common.{◌-◌, not, sym, ap, ◌∙◌, inl, inr, arith}
+use Rattle.std.proofs.lemmas.Bool.{cases_eq}
 use Rattle.downloads.specs.Marks.{arrived_at, marks_in}
 use Rattle.downloads.proofs.Lowest.{lowest-is, lowest_none}
 use Rattle.downloads.proofs.arrivals.ArrivalRecord.first_missing.Goals as goal

@@ -1,4 +1,4 @@
-use Rattle.std.proofs.Common.{◌≡◌, ◌≤◌, length, sym, ◌∙◌, arith, length-take}
+use Rattle.std.proofs.Common.{sym, ◌∙◌, arith, length-take}
 use Rattle.downloads.specs.Marks.{marks_in}
 use Rattle.downloads.proofs.Marks.{past_marks, mark_at}
 use Rattle.downloads.proofs.arrivals.ArrivalRecord.has.Goals as goal

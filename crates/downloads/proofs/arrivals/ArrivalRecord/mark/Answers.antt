@@ -1,8 +1,8 @@
-use Rattle.std.proofs.Common.{◌≡◌, ℕ, ◌+◌, ◌-◌, ◌≤◌, List, length, take, drop, replicate, sym, ap, ◌∙◌, ap₂, arith, length-drop, length-take, length-take-le}
+use Rattle.std.proofs.Common.{◌≡◌, ℕ, ◌+◌, ◌-◌, ◌≤◌, List, length, take, drop, replicate, sym, ap, ◌∙◌, arith, length-drop, length-take, length-take-le}
 use lib.ListN.{length-replicate}
 use Rattle.downloads.specs.declared.arrivals.Arrival.{Arrival}
 use Rattle.downloads.specs.declared.arrivals.Arrival.TheVariants.{Arrived}
-use Rattle.downloads.specs.Marks.{put_at, marks_in}
+use Rattle.downloads.specs.Marks.{put_at}
 use Rattle.downloads.proofs.Parts.{put_mid_lem, put_length, put_within}
 use Rattle.downloads.proofs.arrivals.ArrivalRecord.mark.Goals as goal
 

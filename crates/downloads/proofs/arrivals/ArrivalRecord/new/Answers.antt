@@ -1,4 +1,4 @@
-use Rattle.std.proofs.Common.{◌≡◌, leb, Ok, sym, ap, ◌∙◌, arith}
+use Rattle.std.proofs.Common.{Ok, ap}
 use Rattle.std.proofs.lemmas.Bool.{le-leb}
 use Rattle.downloads.specs.declared.arrivals.Arrival.TheVariants.{Missing}
 use Rattle.downloads.proofs.Marks.{take_equal}

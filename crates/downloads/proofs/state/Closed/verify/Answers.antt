@@ -1,4 +1,4 @@
-use Rattle.std.proofs.Common.{◌≡◌, ℕ, true, false, eqb, length, sym, refl, ap, ◌∙◌}
+use Rattle.std.proofs.Common.{true, false, length, sym, refl, ◌∙◌}
 use Rattle.std.proofs.lemmas.Bool.{eq-eqb, ne_eqb}
 use Rattle.refusals.specs.Codes.{code_of}
 use Rattle.gost.specs.Cipher.{rows_of}

@@ -1,4 +1,4 @@
-use Rattle.std.proofs.Common.{◌≡◌, ℕ, ◌+◌, ◌-◌, ◌*◌, ◌≤◌, length, take, drop, sym, refl, ap, ◌∙◌, arith, length-drop, length-take, rules}
+use Rattle.std.proofs.Common.{refl, arith, length-drop, length-take, rules}
 use Rattle.downloads.specs.Marks.{marks_in}
 use Rattle.downloads.specs.States.{receiving_of}
 use Rattle.downloads.proofs.Taken.{lies, room, body-taken, marks-taken, taken}

@@ -1,5 +1,5 @@
-use Rattle.std.proofs.Common.{◌≡◌, reverse, sym, ap, ◌∙◌, arith}
-use Rattle.gost.specs.Rounds.{swapped, rounds, backward}
+use Rattle.std.proofs.Common.{arith}
+use Rattle.gost.specs.Rounds.{backward}
 use Rattle.gost.proofs.Feistel.{closed_some, backward-rounds, backward-some}
 use Rattle.gost.proofs.rounds.Registers.decipher.Goals as goal
 

@@ -1,5 +1,5 @@
-use Rattle.std.proofs.Common.{◌≡◌, reverse, sym, ap, ◌∙◌, arith}
-use Rattle.gost.specs.Rounds.{swapped, rounds, forward}
+use Rattle.std.proofs.Common.{arith}
+use Rattle.gost.specs.Rounds.{forward}
 use Rattle.gost.proofs.Feistel.{closed_some, forward-rounds, forward-some}
 use Rattle.gost.proofs.rounds.Registers.encipher.Goals as goal
 

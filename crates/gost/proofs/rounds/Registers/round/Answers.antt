@@ -1,4 +1,4 @@
-use Rattle.std.proofs.Common.{◌≡◌, ℕ, ap, ◌∙◌}
+use Rattle.std.proofs.Common.{ℕ, ap, ◌∙◌}
 use lib.Bits.{bit_xor}
 use Rattle.gost.specs.declared.rounds.Registers.{Registers}
 use Rattle.gost.specs.Rounds.{rotated, mixed, round}

@@ -1,4 +1,4 @@
-use Rattle.std.proofs.Common.{◌≡◌, sym, refl, ap, ◌∙◌, arith}
+use Rattle.std.proofs.Common.{sym, refl, ap, ◌∙◌, arith}
 use Rattle.blocks.proofs.Xors.{xored-filled}
 use Rattle.imitovstavka.specs.Parts.{map_in}
 use Rattle.imitovstavka.proofs.chain.Chain.take_in.Goals as goal

@@ -1,4 +1,4 @@
-use Rattle.std.proofs.Common.{◌≡◌, ℕ, ◌-◌, ◌/◌, ◌^◌, ◌∙◌, ap₂, arith}
+use Rattle.std.proofs.Common.{ℕ, ◌-◌, ◌/◌, ◌^◌, ◌∙◌, ap₂, arith}
 use Rattle.blocks.proofs.Words.{word_at}
 use Rattle.gost.specs.Cipher.{registers}
 use Rattle.imitovstavka.proofs.chain.Chain.value.Goals as goal
