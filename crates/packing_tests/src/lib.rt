@@ -212,7 +212,8 @@ mod tests {
             let good = plan(CipherKind::Gost, PlannedMode::Counter(EIGHT), 8, 0);
             planned.push(sevens(heap, good, 9)?)?;
         }
-        refusal(&rt, pack(heap, &small, &KEYS, planned.as_slice()), 5, 0).note("nine sections")
+        // nine sections
+        refusal(&rt, pack(heap, &small, &KEYS, planned.as_slice()), 5, 0)
     }
 
     #[test]

@@ -123,7 +123,8 @@ mod tests {
         refusal(&rt, list(&[1, 9, 0, 0], 16, 4), 5, 0)?;
         refusal(&rt, list(&[1, 1, 1, 0], 16, 4), 5, 0)?;
         refusal(&rt, list(&[1, 1, 0, 1], 16, 4), 5, 0)?;
-        refusal(&rt, list(&[1, 8, 0, 0], 16, 4), 5, 1).note("an entry cut short")
+        // an entry cut short
+        refusal(&rt, list(&[1, 8, 0, 0], 16, 4), 5, 1)
     }
 
     #[test]
@@ -131,24 +132,29 @@ mod tests {
         refusal(&rt, changed(0, 0), 5, 1)?;
         refusal(&rt, changed(0, 3), 5, 1)?;
         refusal(&rt, changed(1, 0), 5, 1)?;
-        refusal(&rt, changed(1, 1), 5, 1).note("codebook with a sync")?;
+        // codebook with a sync
+        refusal(&rt, changed(1, 1), 5, 1)?;
         refusal(&rt, changed(1, 4), 5, 1)?;
         refusal(&rt, changed(3, 1), 5, 1)?;
         refusal(&rt, changed(6, 1), 5, 1)?;
         refusal(&rt, changed(7, 1), 5, 1)?;
-        refusal(&rt, changed(20, 1), 5, 1).note("a sync of nine bytes")?;
+        // a sync of nine bytes
+        refusal(&rt, changed(20, 1), 5, 1)?;
         refusal(&rt, changed(27, 1), 5, 1)?;
-        refusal(&rt, two(2, 1, 32), 5, 2).note("counter with blocks of sixteen bytes")
+        // counter with blocks of sixteen bytes
+        refusal(&rt, two(2, 1, 32), 5, 2)
     }
 
     #[test]
     fn tags(rt: HostRuntime) -> Result<(), Fail> {
         refusal(&rt, changed(2, 0), 5, 1)?;
-        refusal(&rt, changed(2, 31), 5, 1).note("a tag of 32 bits")?;
+        // a tag of 32 bits
+        refusal(&rt, changed(2, 31), 5, 1)?;
         refusal(&rt, changed(2, 33), 5, 1)?;
         let _ = accepted(changed(2, 32))?;
         let _ = accepted(changed(1, 2))?;
-        refusal(&rt, one_bit(2), 5, 1).note("a tag of two bits")?;
+        // a tag of two bits
+        refusal(&rt, one_bit(2), 5, 1)?;
         let _ = accepted(one_bit(1))?;
         Ok(())
     }
@@ -159,7 +165,8 @@ mod tests {
         let _ = accepted(of_length(9, 0, 9))?;
         let _ = accepted(of_length(0, 64, 16384))?;
         refusal(&rt, of_length(1, 64, 16385), 6, 1)?;
-        refusal(&rt, two(1, 1, 33), 6, 2).note("codebook without whole blocks")?;
+        // codebook without whole blocks
+        refusal(&rt, two(1, 1, 33), 6, 2)?;
         refusal(&rt, of_length(9, 0, 8), 8, 0)?;
         refusal(&rt, of_length(9, 0, 10), 8, 0)
     }

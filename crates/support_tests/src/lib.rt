@@ -54,7 +54,8 @@ box 8 0 0 0 0 0 0 0 0 0 0 0 0 0 0 0 0
 
     #[test]
     fn the_description_comes_first(rt: HostRuntime) -> Result<(), Fail> {
-        refused(&rt, b"", b"", b"", 3, 1, 1).note("missing files count as empty")?;
+        // missing files count as empty
+        refused(&rt, b"", b"", b"", 3, 1, 1)?;
         refused(&rt, b"kind\n", b"", b"", 1, 1, 1)
     }
 
