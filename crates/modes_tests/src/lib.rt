@@ -204,16 +204,21 @@ mod tests {
         Ok(())
     }
 
+    // The counters of a block. Nothing is said of them, so the asserts are left to the run.
+    fn counters_at(from: Counters, block: u64) -> Counters {
+        from.of_block(block)
+    }
+
     #[test]
     fn counters_far_out(rt: HostRuntime) {
         let from = Counters {
             third: 0xfefe_feff,
             fourth: 0xfefe_fefb,
         };
-        assert_eq!(rt; from.of_block(0).third, 0);
-        assert_eq!(rt; from.of_block(0).fourth, 0xffff_ffff);
-        assert_eq!(rt; from.of_block(1).fourth, 0x0101_0104);
-        let last = from.of_block(0xffff_fffe);
+        assert_eq!(rt; counters_at(from, 0).third, 0);
+        assert_eq!(rt; counters_at(from, 0).fourth, 0xffff_ffff);
+        assert_eq!(rt; counters_at(from, 1).fourth, 0x0101_0104);
+        let last = counters_at(from, 0xffff_fffe);
         assert_eq!(rt; last.fourth, 0xfefe_fefb);
     }
 }
