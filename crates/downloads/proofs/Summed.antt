@@ -2,7 +2,7 @@
 use Rattle.std.proofs.Common.{◌≡◌, ℕ, suc, ◌+◌, ◌-◌, ◌*◌, ◌/◌, ◌%◌, ◌<◌, ◌≤◌, min, ◌&&◌, eqb, leb, List, [], ◌∷◌, ◌++◌, length, take, drop, sym, ap, ◌∙◌, ap₂, inl, inr, mul_assoc, mul-le-mul_left, mul-zero, mul-one, mul-add, arith, length-drop, length-take, get_or-drop, take-take, take-add}
 use Rattle.std.proofs.lemmas.List.{take_all, length-take-le}
 use Rattle.std.proofs.lemmas.Bool.{and_parts, eqb-true, leb-true, lt-leb, eq-eqb, cases_lt}
-use Rattle.std.specs.List.{AllByRecursion as All}
+use Rattle.std.specs.List.{AllByRecursion}
 use Rattle.blocks.specs.Bytes.{Block}
 use Rattle.gost.specs.Tables.{Rows}
 use Rattle.gost.specs.Cipher.{sixteen}
@@ -18,7 +18,7 @@ use Rattle.downloads.specs.Verdicts.{flat, image_on, value_of_image, last_page}
 use Rattle.downloads.proofs.Framing.{begins}
 use Rattle.downloads.proofs.Flat.{Long, flat-length, flat-page, all_drop}
 
-all-long : (P : ℕ) (pages : List (List ℕ)) → All (Block P) pages → All (Long P) pages
+all-long : (P : ℕ) (pages : List (List ℕ)) → AllByRecursion (Block P) pages → AllByRecursion (Long P) pages
 all-long P [] h = tt
 all-long P (page ∷ pages) h = (h.0.0, all-long P pages h.1)
 
@@ -51,7 +51,7 @@ module _ (s : Described) (t : TargetState) (E : List ℕ → List ℕ) (formed :
   whole-page : P % 16 ≡ 0
   whole-page = eqb-true (P % 16) 0 (and_parts (leb P 4096) (eqb (P % 16) 0) (and_parts (leb 16 P) (leb P 4096 && eqb (P % 16) 0) formed.sized).1).1
 
-  held : All (Long P) (drop s.first_page t.pages)
+  held : AllByRecursion (Long P) (drop s.first_page t.pages)
   held = all_drop P s.first_page t.pages (all-long P t.pages formed.held)
 
   pages_there : pages_for P L ≤ length (drop s.first_page t.pages)

@@ -1,7 +1,7 @@
 -- Each transformation is undone by its inverse, and so is the cipher, for all round keys.
 use Rattle.std.proofs.Common.{◌≡◌, ℕ, zero, suc, ◌<◌, List, [], ◌∷◌, ◌++◌, map, length, get_or, take, drop, sym, refl, ap, ◌∙◌, ap₂, inr, arith}
 use lib.Bits.{bit_xor, xor_assoc, xor_comm, xor_self, xor_zero_r, xor_lt}
-use Rattle.std.specs.List.{AllByRecursion as All}
+use Rattle.std.specs.List.{AllByRecursion}
 use Rattle.std.proofs.ByRecursion.{All-map, All-weaker, All-take, All-append, All-from_get_or}
 use Rattle.std.proofs.lemmas.List.{length-map, length-take, length-append, take-append-drop, take_at, drop_more, drop_all}
 use Rattle.blocks.specs.Bytes.{Bytes, Block, xored}
@@ -162,12 +162,12 @@ unfolding LSX XS⁻¹L⁻¹
 XS⁻¹L⁻¹_undone k w = then L⁻¹ L (λ a. X k (S⁻¹ a)) (λ a. S (X k a)) L⁻¹_undone (then S⁻¹ S (X k) (X k) S⁻¹_undone (X_undone k w))
 
 -- all rounds
-there : (keys : List (List ℕ)) → All Bytes keys → Undoes (deciphered keys) (enciphered keys)
+there : (keys : List (List ℕ)) → AllByRecursion Bytes keys → Undoes (deciphered keys) (enciphered keys)
 there [] w = record { stays = λ a b. b; back = λ a b. refl }
 there (k ∷ []) w = X_undone k w.0
 there (k ∷ (l ∷ ls)) w = then (LSX k) (XS⁻¹L⁻¹ k) (enciphered (l ∷ ls)) (deciphered (l ∷ ls)) (LSX_undone k w.0) (there (l ∷ ls) w.1)
 
-back : (keys : List (List ℕ)) → All Bytes keys → Undoes (enciphered keys) (deciphered keys)
+back : (keys : List (List ℕ)) → AllByRecursion Bytes keys → Undoes (enciphered keys) (deciphered keys)
 back [] w = record { stays = λ a b. b; back = λ a b. refl }
 back (k ∷ []) w = X_undone k w.0
 back (k ∷ (l ∷ ls)) w = then (deciphered (l ∷ ls)) (enciphered (l ∷ ls)) (XS⁻¹L⁻¹ k) (LSX k) (back (l ∷ ls) w.1) (XS⁻¹L⁻¹_undone k w.0)
@@ -184,7 +184,7 @@ bytes-at (k ∷ ks) w zero j = bytes_in k (w 0 (omega arith)) j
 bytes-at (k ∷ ks) w (suc i) j = bytes-at ks (λ n h. w (suc n) (omega arith)) i j
 
 module _ (keys : List (List ℕ)) (small : OfBytes keys) where
-  all-bytes : All Bytes keys
+  all-bytes : AllByRecursion Bytes keys
   all-bytes = All-from_get_or Bytes keys [] (λ i h. bytes-from (get_or keys i []) (small i))
 
   pub enciphered_undone : Undoes (deciphered keys) (enciphered keys)

@@ -1,7 +1,7 @@
 -- From section to section while a file is filled.
 use Rattle.std.proofs.Common.{◌≡◌, ℕ, suc, ◌+◌, ◌<◌, ◌≤◌, List, [], ◌∷◌, ◌++◌, map, length, get_or, drop, Ok, Err, sym, refl, ap, ◌∙◌, subst, ap₂, append_assoc, append-nil}
 use Rattle.std.proofs.lemmas.List.{length-map, get_or-map, drop_more, drop_all}
-use Rattle.std.specs.List.{AllByRecursion as All}
+use Rattle.std.specs.List.{AllByRecursion}
 use Rattle.refusals.specs.Codes.{Code, code_of}
 use Rattle.sections.specs.Files.{bodies_from}
 use Rattle.sections.specs.Written.{entry_bytes, entries, bodies}
@@ -49,7 +49,7 @@ pub record Held (m : Means) (ws rest : List Work) (place : ℕ) (file text : Lis
   pub fits : fitting_all 1 ws ≡ fitting_all place rest
   pub table : file ++ entries_of m rest ≡ 1 ∷ length ws ∷ 0 ∷ 0 ∷ entries_of m ws
   pub body : text ++ bodies_of m rest ≡ bodies_of m ws
-  pub kept : All (λ w. Kept m w) rest → All (λ w. Kept m w) ws
+  pub kept : AllByRecursion (λ w. Kept m w) rest → AllByRecursion (λ w. Kept m w) ws
 
 pub held_first : (m : Means) (ws : List Work) (file text : List ℕ) → file ≡ 1 ∷ length ws ∷ 0 ∷ 0 ∷ [] → text ≡ [] → Held m ws ws 1 file text
 held_first m ws file text f t = record {
@@ -68,7 +68,7 @@ held_more m ws rest more w place file text file' text' entry body h r f k e b g 
       ∙ (append_assoc file (entry_bytes (sealed_section m 0 w)) (entries_of m more) ∙ (ap (λ (x : List Work). file ++ entries_of m x) (sym r) ∙ h.table));
   body = ap (λ (x : List ℕ). x ++ bodies_of m more) (t ∙ ap (λ (x : List ℕ). text ++ x) b)
       ∙ (append_assoc text (sealed_body m w) (bodies_of m more) ∙ (ap (λ (x : List Work). text ++ bodies_of m x) (sym r) ∙ h.body));
-  kept = λ a. h.kept (subst (λ (x : List Work). All (λ w. Kept m w) x) (sym r) (k, a));
+  kept = λ a. h.kept (subst (λ (x : List Work). AllByRecursion (λ w. Kept m w) x) (sym r) (k, a));
 }
 
 pub held-bad : (m : Means) (ws rest more : List Work) (w : Work) (place : ℕ) (file text : List ℕ) (e : Code) → Held m ws rest place file text → rest ≡ w ∷ more →
@@ -82,7 +82,7 @@ held-last m ws rest place file text whole h r e =
     record {
       fits = h.fits ∙ ap (λ (x : List Work). fitting_all place x) r;
       file_is = e ∙ (ap₂ (λ (a b : List ℕ). a ++ b) table body ∙ sym (file_parts m ws));
-      kept = h.kept (subst (λ (x : List Work). All (λ w. Kept m w) x) (sym r) tt);
+      kept = h.kept (subst (λ (x : List Work). AllByRecursion (λ w. Kept m w) x) (sym r) tt);
     }
 
 -- a section that is not sealed

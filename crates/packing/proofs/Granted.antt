@@ -2,7 +2,7 @@
 use Rattle.std.proofs.Common.{◌≡◌, ℕ, suc, ◌+◌, ◌*◌, ◌<◌, ◌≤◌, Bool, true, false, cond, not, ◌&&◌, eqb, leb, List, [], ◌∷◌, ◌++◌, map, length, get_or, take, drop, Some, None, Ok, Err, Option, Result, sym, refl, ap, ◌∙◌, ap₂, inl, inr, append_assoc, append-nil, arith, length-append}
 use Rattle.std.proofs.lemmas.List.{take-append-le, drop-append-le, take_all, drop_all}
 use Rattle.std.proofs.lemmas.Bool.{and_from, and_left, and_right, le-leb, lt-leb, leb-true, leb-false, eqb-true, eq-eqb, cases_Bool}
-use Rattle.std.specs.List.{AllByRecursion as All}
+use Rattle.std.specs.List.{AllByRecursion}
 use Rattle.refusals.specs.declared.Reason.TheVariants.{WrongSize, BadField, BadPages}
 use Rattle.refusals.specs.declared.Layer.TheVariants.{File}
 use Rattle.refusals.specs.Codes.{Code, refuse, code_of, then}
@@ -90,7 +90,7 @@ abbrev total : List Work → ℕ
 total [] = 0
 total (w ∷ ws) = length w.image + total ws
 
-bodies-long : (m : Means) (ws : List Work) → All (λ w. Kept m w) ws → length (bodies_of m ws) ≡ total ws
+bodies-long : (m : Means) (ws : List Work) → AllByRecursion (λ w. Kept m w) ws → length (bodies_of m ws) ≡ total ws
 bodies-long m [] k = refl
 bodies-long m (w ∷ ws) k = omega (arith, length-append (sealed_body m w) (bodies_of m ws), k.0.long, bodies-long m ws k.1)
 
@@ -102,7 +102,7 @@ step-paged true s e rest on out h = h
 step-paged false s e rest on out h = refl
 
 paged-from : (page_length page_count : ℕ) (m : Means) (file front tail : List ℕ) (i offset : ℕ) (earlier : List Described) (ws : List Work) →
-    file ≡ front ++ (entries_of m ws ++ tail) → length front ≡ 4 + 32 * i → offset + total ws ≡ length file → All (λ w. Kept m w) ws →
+    file ≡ front ++ (entries_of m ws ++ tail) → length front ≡ 4 + 32 * i → offset + total ws ≡ length file → AllByRecursion (λ w. Kept m w) ws →
     listed_from page_length page_count file (length ws) i offset earlier
     ≡ then (paged_all page_length page_count (i + 1) earlier (parts m offset ws)) (λ u. Ok (earlier ++ map (λ p. p.section) (parts m offset ws)))
 paged-from page_length page_count m file front tail i offset earlier [] e l t k =
@@ -137,7 +137,7 @@ paged-from page_length page_count m file front tail i offset earlier (w ∷ ws) 
     ∙ ap (λ (x : List Described). then (on s) (λ u. Ok x)) (append_assoc earlier (s ∷ []) (map (λ p. p.section) more)))) in
     ap (λ (r : Result Described Code). then r rest) next ∙ step-paged fits s (refuse BadPages (i + 1) File) rest on (earlier ++ s ∷ map (λ p. p.section) more) go
 
-listed-is : (page_length page_count : ℕ) (m : Means) (ws : List Work) → 0 < page_length → 1 ≤ length ws → length ws ≤ 8 → All (λ w. Kept m w) ws →
+listed-is : (page_length page_count : ℕ) (m : Means) (ws : List Work) → 0 < page_length → 1 ≤ length ws → length ws ≤ 8 → AllByRecursion (λ w. Kept m w) ws →
     listed page_length page_count (packed_file m ws)
     ≡ cond (leb (length (packed_file m ws)) 65536)
     (then (paged_all page_length page_count 1 [] (parts m (bodies_from (length ws)) ws)) (λ u. Ok (map (λ p. p.section) (parts m (bodies_from (length ws)) ws))))
@@ -188,7 +188,7 @@ same_listed true (Err x) e ss got h = absurd (let z : ◌≡◌ {A = ℕ} 0 1 = 
 same_listed false r e ss got h = absurd (let z : ◌≡◌ {A = ℕ} 0 1 = cc in omega arith)
 
 -- the body of each section opens to its image
-opened : (m : Means) (offset : ℕ) (file front : List ℕ) (ws : List Work) → file ≡ front ++ bodies_of m ws → length front ≡ offset → All (λ w. Kept m w) ws → Opened m offset file ws
+opened : (m : Means) (offset : ℕ) (file front : List ℕ) (ws : List Work) → file ≡ front ++ bodies_of m ws → length front ≡ offset → AllByRecursion (λ w. Kept m w) ws → Opened m offset file ws
 opened m offset file front [] e l k = tt
 opened m offset file front (w ∷ ws) e l k =
     let s = sealed_section m offset w in

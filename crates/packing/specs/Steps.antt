@@ -1,6 +1,6 @@
 -- What the functions below `pack` promise each other.
 use Rattle.std.specs.Prelude.{◌≡◌, ℕ, ◌^◌, ◌<◌, List, length, Ok, Err, vec_items, Result}
-use Rattle.std.specs.List.{AllByRecursion as All}
+use Rattle.std.specs.List.{AllByRecursion}
 use Rattle.refusals.specs.declared.Refusal.{Refusal}
 use Rattle.refusals.specs.Codes.{code_of, outcome}
 use Rattle.blocks.specs.Ciphers.{BlockMap}
@@ -53,7 +53,7 @@ Sealing m place w (Err Memory) = Unit {0}
 pub record FilledAs (m : Means) (ws : List Work) (file : List ℕ) : Type 0 where
   pub fits : fitting_all 1 ws ≡ Ok tt
   pub file_is : file ≡ packed_file m ws
-  pub kept : All (λ w. Kept m w) ws
+  pub kept : AllByRecursion (λ w. Kept m w) ws
 
 abbrev pub Filled : {X : Type 0} → (X → List ℕ) → Means → List Work → Result X Fault → Type 0
 Filled meaning m ws (Ok x) = FilledAs m ws (meaning x)

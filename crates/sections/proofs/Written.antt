@@ -1,6 +1,6 @@
 -- Listing what was written.
 use Rattle.std.proofs.Common.{◌≡◌, ℕ, suc, ◌+◌, ◌*◌, ◌^◌, ◌<◌, ◌≤◌, true, false, ◌&&◌, ltb, leb, List, [], ◌∷◌, ◌++◌, map, length, take, drop, Some, None, Ok, Option, Result, sym, refl, ap, ◌∙◌, ap₂, inl, inr, append_assoc, append-nil, arith, length-append, pow_mono}
-use Rattle.std.specs.List.{AllByRecursion as All}
+use Rattle.std.specs.List.{AllByRecursion}
 use Rattle.std.proofs.lemmas.List.{take-append-le, drop-append-le, take_all, drop_all}
 use Rattle.std.proofs.lemmas.Bool.{and_from, and_left, and_right, or_from, lt-ltb, le-ltb, le-leb, eq-eqb, false≢true}
 use Rattle.refusals.specs.Codes.{Code}
@@ -124,7 +124,7 @@ apart_false : (page_length : ℕ) (s t : Described) → Apart page_length s t �
 apart_false page_length s t (inl h) = and_right (ltb s.first_page (pages_end page_length t)) (ltb t.first_page (pages_end page_length s)) (le-ltb t.first_page (pages_end page_length s) h)
 apart_false page_length s t (inr h) = and_left (ltb s.first_page (pages_end page_length t)) (ltb t.first_page (pages_end page_length s)) (le-ltb s.first_page (pages_end page_length t) h)
 
-all_apart : (page_length : ℕ) (s : Described) (ts : List Described) → All (λ t. Apart page_length s t) ts → shares_any page_length s ts ≡ false
+all_apart : (page_length : ℕ) (s : Described) (ts : List Described) → AllByRecursion (λ t. Apart page_length s t) ts → shares_any page_length s ts ≡ false
 all_apart page_length s [] h = refl
 all_apart page_length s (t ∷ ts) h = or_from (shares page_length s t) (shares_any page_length s ts) (apart_false page_length s t h.0) (all_apart page_length s ts h.1)
 
@@ -192,7 +192,7 @@ bodies-length page_length page_count offset earlier (p ∷ ps) h =
 
 -- each body lies where its section says
 found : (page_length page_count offset : ℕ) (earlier : List Described) (file front : List ℕ) (ps : List Part) → file ≡ front ++ bodies ps → length front ≡ offset →
-    Laid page_length page_count offset earlier ps → All (λ p. body_of p.section file ≡ p.body) ps
+    Laid page_length page_count offset earlier ps → AllByRecursion (λ p. body_of p.section file ≡ p.body) ps
 found page_length page_count offset earlier file front [] e l h = tt
 found page_length page_count offset earlier file front (p ∷ ps) e l h =
     let g = h.0 in

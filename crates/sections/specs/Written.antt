@@ -1,6 +1,6 @@
 -- Files as they are written: what is written for good sections is listed as those sections.
 use Rattle.std.specs.Prelude.{◌≡◌, ℕ, ◌+◌, ◌^◌, ◌<◌, ◌≤◌, true, ◌⊎◌, List, [], ◌∷◌, ◌++◌, map, length, take, drop, replicate, Some, None, Ok, Option}
-use Rattle.std.specs.List.{AllByRecursion as All}
+use Rattle.std.specs.List.{AllByRecursion}
 use Rattle.blocks.specs.Bytes.{bytes_of}
 use Rattle.modes.specs.declared.mode.Mode.{Mode}
 use Rattle.modes.specs.declared.mode.Mode.TheVariants.{Codebook, Counter, Feedback}
@@ -68,7 +68,7 @@ pub record Good (page_length page_count offset : ℕ) (earlier : List Described)
   pub body : length p.body ≡ p.section.length
   pub place : p.section.offset ≡ offset
   pub target : pages_end page_length p.section ≤ page_count
-  pub apart : All (λ t. Apart page_length p.section t) earlier
+  pub apart : AllByRecursion (λ t. Apart page_length p.section t) earlier
 
 -- the bodies lie one after the other from an offset on
 abbrev pub Laid : ℕ → ℕ → ℕ → List Described → List Part → Type 0
@@ -86,4 +86,4 @@ abbrev pub ListsWritten : Type 0
 ListsWritten =
     (page_length page_count : ℕ) (ps : List Part) → 0 < page_length → 1 ≤ length ps → length ps ≤ 8 → length (written ps) ≤ 65536 →
     Laid page_length page_count (bodies_from (length ps)) [] ps →
-    (listed page_length page_count (written ps) ≡ Ok (map (λ p. p.section) ps)) × All (λ p. body_of p.section (written ps) ≡ p.body) ps
+    (listed page_length page_count (written ps) ≡ Ok (map (λ p. p.section) ps)) × AllByRecursion (λ p. body_of p.section (written ps) ≡ p.body) ps

@@ -1,7 +1,7 @@
 -- Pages of one length in memory, in turn.
 use Rattle.std.proofs.Common.{◌≡◌, ℕ, zero, suc, ◌+◌, ◌*◌, ◌<◌, ◌≤◌, List, [], ◌∷◌, ◌++◌, length, get_or, take, drop, set, sym, refl, ap, ◌∙◌, ap₂, add-mul, one-mul, zero-mul, arith}
 use borrow.Rule.Slice.PartMut.{put_mid}
-use Rattle.std.specs.List.{AllByRecursion as All}
+use Rattle.std.specs.List.{AllByRecursion}
 use Rattle.std.proofs.ByRecursion.{All-take, All-drop}
 use Rattle.std.proofs.lemmas.List.{take_at, drop_at, drop-append-le, drop-take, drop-drop, length-take-le, length-drop}
 use Rattle.std.proofs.lemmas.Slice.{take-put_mid_below}
@@ -43,7 +43,7 @@ pages-length n zero memory = refl
 pages-length n (suc count) memory = ap suc (pages-length n count (drop n memory))
 
 -- each holds n bytes
-pub pages-held : (n count : ℕ) (memory : List ℕ) → count * n ≤ length memory → Bytes memory → All (Block n) (pages_in n count memory)
+pub pages-held : (n count : ℕ) (memory : List ℕ) → count * n ≤ length memory → Bytes memory → AllByRecursion (Block n) (pages_in n count memory)
 pages-held n zero memory h bytes = tt
 pages-held n (suc count) memory h bytes =
     let step = next n count in (

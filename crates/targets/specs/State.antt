@@ -1,6 +1,6 @@
 -- What a target means: its pages, and what may be done with each.
 use Rattle.std.specs.Prelude.{◌≡◌, ℕ, ◌<◌, ◌≤◌, Bool, true, false, List, [], length, slice_index_or}
-use Rattle.std.specs.List.{AllByRecursion as All}
+use Rattle.std.specs.List.{AllByRecursion}
 use Rattle.blocks.specs.Bytes.{Block}
 use Rattle.description.specs.Limits.{allowed_length}
 
@@ -35,6 +35,6 @@ pub record WellFormed (t : TargetState) : Type 0 where
   pub counted : t.page_count ≤ 1024
   pub filled : t.fill < 256
   pub paged : length t.pages ≡ t.page_count
-  pub held : All (Block t.page_length) t.pages
+  pub held : AllByRecursion (Block t.page_length) t.pages
   pub lock_marks : length t.locked ≡ t.page_count
   pub ready_marks : length t.ready ≡ t.page_count

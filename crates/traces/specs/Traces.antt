@@ -1,7 +1,7 @@
 -- A trace: the calls of one download, one after the other, refused ones among them. What each call
 -- answers and does, by the definitions of downloads.
 use Rattle.std.specs.Prelude.{ℕ, ◌+◌, Bool, true, false, cond, not, List, [], ◌∷◌, replicate, Ok, Err, Result, ◌==◌}
-use Rattle.std.specs.List.{AllByRecursion as All}
+use Rattle.std.specs.List.{AllByRecursion}
 use Rattle.refusals.specs.Codes.{Code, then, unless}
 use Rattle.blocks.specs.Bytes.{Bytes}
 use Rattle.blocks.specs.Ciphers.{BlockMap}
@@ -152,4 +152,4 @@ OfBytes reopen = Unit {0}
 OfBytes verify = Unit {0}
 
 abbrev pub AllOfBytes : List Call → Type 0
-AllOfBytes calls = All OfBytes calls
+AllOfBytes calls = AllByRecursion OfBytes calls
