@@ -3,8 +3,8 @@
 
 #![tactic(auto)]
 
-use anyhow::anyhow;
 use files::read_or_empty;
+use std::process::ExitCode;
 use support::report_on;
 
 /// Prints the answer, and says whether there was one.
@@ -24,10 +24,10 @@ fn answer(rt: &HostRuntime) -> anyhow::Result<bool> {
     }
 }
 
-fn main(rt: HostRuntime) -> anyhow::Result<()> {
+fn main(rt: HostRuntime) -> anyhow::Result<ExitCode> {
     if answer(&rt)? {
-        Ok(())
+        Ok(ExitCode::SUCCESS)
     } else {
-        Err(anyhow!("refused"))
+        Ok(ExitCode::FAILURE)
     }
 }

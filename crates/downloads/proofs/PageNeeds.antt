@@ -12,7 +12,7 @@ use Rattle.downloads.specs.Marks.{missing_from, lowest}
 use Rattle.downloads.specs.Copies.{Copies, lacks, copies_in, refused_at}
 use Rattle.downloads.specs.Frames.{block_of, blocks_of, good_store}
 use Rattle.downloads.specs.Blocks.{first_needed}
-use Rattle.downloads.specs.Pages.{first_in, count_in, needs, page_judged}
+use Rattle.downloads.specs.Pages.{place_of, first_in, count_in, needs, page_judged}
 use Rattle.downloads.proofs.Answered.{store_parts}
 use Rattle.downloads.proofs.Given.{missing_in}
 use Rattle.downloads.proofs.Windows.{run-needs}
@@ -42,7 +42,7 @@ module _ (s : Described) (body : List ℕ) (marks : List Arrival) (P j : ℕ) (a
         let ends : hi ≡ from + count_in P s j = omega (arith, high, first, per, blocks, page_low s P j allowed inside) in
         let starts : lo ≡ first_needed s.mode from = low ∙ ap (first_needed s.mode) first in
         let test : (p c : ℕ) → Result Unit Code =
-        λ p c. cond (ltb (j * p) s.length && ltb (s.first_page + j) c) (refused_at MissingBlock (lowest (λ k. needs p s j k && lacks copies k) 0 (blocks_of s))) (Err (refuse NoSuchPage (s.first_page + j) Download)) in
+        λ p c. cond (ltb (j * p) s.length && ltb (s.first_page + j) c) (refused_at MissingBlock (lowest (λ k. needs p s j k && lacks copies k) 0 (blocks_of s))) (Err (refuse NoSuchPage (place_of (s.first_page + j)) Download)) in
         let here : refused_at MissingBlock o ≡ test P count =
         rw (lt-ltb (j * P) s.length inside, lt-ltb (s.first_page + j) count there)
         (ap (refused_at MissingBlock) (found ∙ (ap₂ (λ (a b : ℕ). missing_from marks a (b - a)) starts ends ∙ missing-needed))) in

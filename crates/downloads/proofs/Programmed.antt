@@ -18,7 +18,7 @@ use Rattle.downloads.specs.Marks.{lowest}
 use Rattle.downloads.specs.Copies.{Copies, lacks, copies_in, refused_at}
 use Rattle.downloads.specs.Frames.{block_of, blocks_of, good_store}
 use Rattle.downloads.specs.Blocks.{depends, plain_from}
-use Rattle.downloads.specs.Pages.{first_in, count_in, needs, filled_up, prepared, on_target, page_judged, page_answer, prepared_on, program_page_answer, buffer_after, target_programmed}
+use Rattle.downloads.specs.Pages.{place_of, first_in, count_in, needs, filled_up, prepared, on_target, page_judged, page_answer, prepared_on, program_page_answer, buffer_after, target_programmed}
 use Rattle.downloads.proofs.Lowest.{none_found, some-found}
 use Rattle.downloads.proofs.Answered.{ok_cond}
 use Rattle.downloads.proofs.Given.{none_at, plain-is}
@@ -34,7 +34,7 @@ pub record Granted (s : Described) (t : TargetState) (copies : Copies) (j : ℕ)
 pub page-granted : (s : Described) (t : TargetState) (copies : Copies) (j : ℕ) → page_judged s t copies j ≡ Ok tt → Granted s t copies j
 page-granted s t copies j e =
     let test : ℕ → Bool = λ k. needs t.page_length s j k && lacks copies k in
-    let a = ok_cond (on_target s t j) (refused_at MissingBlock (lowest test 0 (blocks_of s))) (refuse NoSuchPage (s.first_page + j) Download) tt e in
+    let a = ok_cond (on_target s t j) (refused_at MissingBlock (lowest test 0 (blocks_of s))) (refuse NoSuchPage (place_of (s.first_page + j)) Download) tt e in
     let b = and_parts (ltb (j * t.page_length) s.length) (ltb (s.first_page + j) t.page_count) a.0 in
     record {
       inside = ltb-true (j * t.page_length) s.length b.0;

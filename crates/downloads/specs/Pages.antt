@@ -39,12 +39,16 @@ prepared c s P fill copies j = filled_up P fill (joined (plain_from c s copies) 
 abbrev pub on_target : Described → TargetState → ℕ → Bool
 on_target s t j = nat_lt (j * t.page_length) s.length && nat_lt (s.first_page + j) t.page_count
 
+-- a target page as the place of a refusal: a page past what 32 bits can number is told as the last number
+abbrev pub place_of : ℕ → ℕ
+place_of page = min page 4294967295
+
 -- whether the page can be prepared
 abbrev pub page_judged : Described → TargetState → Copies → ℕ → Result Unit Code
 page_judged s t copies j =
     cond (on_target s t j)
     (refused_at MissingBlock (lowest (λ k. needs t.page_length s j k && lacks copies k) 0 (blocks_of s)))
-    (Err (refuse NoSuchPage (s.first_page + j) Download))
+    (Err (refuse NoSuchPage (place_of (s.first_page + j)) Download))
 
 unfoldable pub page_answer : BlockMap → Described → ℕ → ℕ → TargetState → Copies → ℕ → ℕ → Result Unit Code
 page_answer c s body marks t copies room j =

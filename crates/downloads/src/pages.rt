@@ -4,13 +4,15 @@ ghost use Rattle.std.specs.Prelude.{◌≡◌, ◌+◌, ◌*◌, ◌<◌, ◌≤
 ghost use Rattle.description.specs.Limits.{allowed_length};
 ghost use Rattle.modes.specs.Modes.{joined};
 ghost use Rattle.modes.specs.Calls.{plain_of, front};
-ghost use Rattle.refusals.specs.Codes.{outcome};
+ghost use Rattle.refusals.specs.Codes.{outcome, code_of, refuse};
+ghost use Rattle.refusals.specs.declared.Reason.TheVariants.{NoSuchPage};
+ghost use Rattle.refusals.specs.declared.Layer.TheVariants.{Download as DownloadLayer};
 ghost use Rattle.sections.specs.Meaning.{meaning_of};
 ghost use Rattle.targets.specs.State.{TargetState};
 ghost use Rattle.downloads.specs.Marks.{marks_in};
 ghost use Rattle.downloads.specs.Copies.{copies_in};
 ghost use Rattle.downloads.specs.Frames.{block_of, blocks_of, good_store};
-ghost use Rattle.downloads.specs.Pages.{first_in, count_in, filled_up, page_judged, program_page_answer, target_programmed, buffer_after};
+ghost use Rattle.downloads.specs.Pages.{first_in, count_in, filled_up, place_of, page_judged, program_page_answer, target_programmed, buffer_after};
 
 use crate::arrivals::ArrivalRecord;
 use crate::giving::{first_needed, good_parts};
@@ -65,6 +67,14 @@ fn prepare<C: BlockCipher>(
     page[end..].fill(fill);
 }
 
+/// The refusal of a target page.
+fn no_such_page(page: u64) -> Refusal
+    ensures { code_of result ≡ refuse NoSuchPage (place_of page) DownloadLayer }
+{
+    let place = page.min(0xffff_ffff) as u32;
+    Refusal::new(Reason::NoSuchPage, place, Layer::Download)
+}
+
 /// Whether image page `j` can be made for a target: the image and the target have it, and every
 /// cipher block that it needs has arrived.
 fn judge_page(
@@ -80,9 +90,10 @@ fn judge_page(
     ensures { (t : TargetState) → t.page_length ≡ page_length → t.page_count ≡ page_count → outcome result ≡ page_judged (meaning_of section.now) t (copies_in (block_of (meaning_of section.now)) body.now (marks_in arrivals.now)) j }
 {
     let j = u32::from(j);
-    let place = section.first_page + j;
+    let place = u64::from(section.first_page) + u64::from(j);
+    let page_count = u64::from(page_count);
     if j * page_length >= section.length || place >= page_count {
-        return Err(Refusal::new(Reason::NoSuchPage, place, Layer::Download));
+        return Err(no_such_page(place));
     }
     let per = page_length / section.cipher.block_length() as u32;
     let from = j * per;

@@ -32,7 +32,7 @@ fn judge_verifying(
     }
     let first = section.first_page;
     let pages = (section.length + page_length - 1) / page_length;
-    if first + pages > page_count {
+    if u64::from(first) + u64::from(pages) > u64::from(page_count) {
         return Err(Refusal::new(Reason::NoSuchPage, first.max(page_count), Layer::Download));
     }
     Ok(())

@@ -9,10 +9,10 @@ mod group;
 mod hex;
 mod vector;
 
-use anyhow::anyhow;
 use ciphers::agrees;
 use files::read_or_empty;
 use group::Group;
+use std::process::ExitCode;
 use vector::{Vector, read_vector};
 
 /// How many vectors of a group there are, and how many agreed.
@@ -56,7 +56,7 @@ fn run_group(rt: &HostRuntime, group: Group, vectors: &[Vector]) -> Tally {
     tally
 }
 
-fn main(rt: HostRuntime) -> anyhow::Result<()> {
+fn main(rt: HostRuntime) -> anyhow::Result<ExitCode> {
     let text = String::from_utf8(read_or_empty(&rt, "vectors.txt")?)?;
     let mut vectors = Vec::new(rt.alloc());
     let malformed = read_vectors(&rt, text.as_str(), &mut vectors)?;
@@ -69,8 +69,8 @@ fn main(rt: HostRuntime) -> anyhow::Result<()> {
         all_agreed = all_agreed && all > 0 && agreed == all;
     }
     if all_agreed {
-        Ok(())
+        Ok(ExitCode::SUCCESS)
     } else {
-        Err(anyhow!("not all agreed"))
+        Ok(ExitCode::FAILURE)
     }
 }

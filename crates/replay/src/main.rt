@@ -16,13 +16,13 @@ mod replaying;
 mod report;
 mod said;
 
-use anyhow::anyhow;
 use description::describe;
 use fault::{Fault, Source};
 use replaying::{Setting, SpreadKeys, replay};
 use report::{say_fault, say_run};
 use scripts::reading::read_script;
 use sections::file::list;
+use std::process::ExitCode;
 use std::{env, fs};
 
 /// The bytes of a file.
@@ -96,10 +96,10 @@ fn run_scripts(rt: &HostRuntime) -> anyhow::Result<bool> {
     run_script(rt, "trace.txt")
 }
 
-fn main(rt: HostRuntime) -> anyhow::Result<()> {
+fn main(rt: HostRuntime) -> anyhow::Result<ExitCode> {
     if run_scripts(&rt)? {
-        Ok(())
+        Ok(ExitCode::SUCCESS)
     } else {
-        Err(anyhow!("a script is not run"))
+        Ok(ExitCode::FAILURE)
     }
 }

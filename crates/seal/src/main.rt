@@ -21,6 +21,7 @@ use refusals::{Layer, Reason, Refusal};
 use said::{cipher_word, meaning, mode_word};
 use sections::file::list;
 use sections::section::Section;
+use std::process::ExitCode;
 use std::{fs, io};
 
 /// Where the file is written until it is listed again.
@@ -179,10 +180,10 @@ fn make(rt: &HostRuntime) -> anyhow::Result<bool> {
     }
 }
 
-fn main(rt: HostRuntime) -> anyhow::Result<()> {
+fn main(rt: HostRuntime) -> anyhow::Result<ExitCode> {
     if make(&rt)? {
-        Ok(())
+        Ok(ExitCode::SUCCESS)
     } else {
-        Err(anyhow!("image.dlf is not made"))
+        Ok(ExitCode::FAILURE)
     }
 }

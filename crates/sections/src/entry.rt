@@ -12,11 +12,11 @@ use modes::mode::{Mode, Sync};
 use refusals::{Layer, Reason, Refusal};
 
 /// The number in two bytes from a place on.
-fn read_two(bytes: &[u8], at: usize) -> u16
+fn read_two(bytes: &[u8], at: usize) -> u32
     requires { at + 2 ≤ length bytes.now }
     ensures { result ≡ number 2 at bytes.now }
 {
-    bytes[at] as u16 + bytes[at + 1] as u16 * 256
+    bytes[at] as u32 + bytes[at + 1] as u32 * 256
 }
 
 /// The number in four bytes from a place on.
@@ -151,7 +151,7 @@ pub(crate) fn judge_fields(f: Fields, place: u32, offset: u32) -> Result<Section
         cipher,
         mode,
         bits: f.bits,
-        first_page: u32::from(f.first_page),
+        first_page: f.first_page,
         length: f.length,
         sync: sync_in(mode, f.first, f.second),
         tag: f.tag,

@@ -1,6 +1,6 @@
 //! A section of a download file.
 
-ghost use Rattle.std.specs.Prelude.{◌≡◌, ◌<◌, ◌≤◌, true};
+ghost use Rattle.std.specs.Prelude.{◌≡◌, ◌≤◌, true};
 ghost use Rattle.modes.specs.Calls.{agrees, whole_in};
 ghost use Rattle.sections.specs.Images.{block_length, allowed_image};
 
@@ -22,7 +22,6 @@ pub struct Section {
     pub tag: u32,
     /// Where the body begins in the file.
     pub offset: u32,
-    ghost small: { first_page < 65536 },
     ghost narrow: { (1 ≤ bits) × (bits ≤ 32) },
     ghost allowed: { allowed_image length ≡ true },
     ghost agreed: { agrees (block_length cipher) mode sync ≡ true },

@@ -20,7 +20,7 @@ use Rattle.downloads.specs.Marks.{lowest}
 use Rattle.downloads.specs.Copies.{Copies, Has, lacks, copy_at, refused_at, sized}
 use Rattle.downloads.specs.Frames.{block_of, blocks_of}
 use Rattle.downloads.specs.Blocks.{depends, plain_from}
-use Rattle.downloads.specs.Pages.{first_in, count_in, needs, filled_up, prepared, on_target, page_judged}
+use Rattle.downloads.specs.Pages.{place_of, first_in, count_in, needs, filled_up, prepared, on_target, page_judged}
 use Rattle.traces.specs.Traces.{Setting, program, done, refused, Standing, judged, answered, answer_to}
 use Rattle.traces.specs.Promise.{Missing, Lowest, Needs, PageAnswer}
 use Rattle.traces.proofs.Lowest.{lowest-found, lowest_which}
@@ -151,7 +151,7 @@ pub page-parts : (w : Setting) (t : TargetState) (copies : Copies) (j : ℕ) →
     (w.section.first_page + j < t.page_count) × (lowest (λ k. needs t.page_length w.section j k && lacks copies k) 0 (blocks_of w.section) ≡ None)
 page-parts w t copies j ok =
     let lacking = lowest (λ k. needs t.page_length w.section j k && lacks copies k) 0 (blocks_of w.section) in
-    let c = cond_ok (on_target w.section t j) (refused_at MissingBlock lacking) (refuse NoSuchPage (w.section.first_page + j) Download) tt ok in
+    let c = cond_ok (on_target w.section t j) (refused_at MissingBlock lacking) (refuse NoSuchPage (place_of (w.section.first_page + j)) Download) tt ok in
     let d = and_parts (ltb (j * t.page_length) w.section.length) (ltb (w.section.first_page + j) t.page_count) c.0 in
     (ltb-true (w.section.first_page + j) t.page_count d.1, at_ok MissingBlock lacking c.1)
 
@@ -184,7 +184,7 @@ page-answered w s j whole =
     let only : Only w P whole j s.copies r =
     only_then w P whole j s.copies (sized (eqb w.room P) (page_judged w.section s.target s.copies j)) (program_answer s.target (w.section.first_page + j) P)
     (only_cond w P whole j s.copies (eqb w.room P) (page_judged w.section s.target s.copies j) (refuse WrongBuffer 0 Download) (λ x. omega arith)
-    (only_cond w P whole j s.copies (on_target w.section s.target j) (refused_at MissingBlock lacking) (refuse NoSuchPage (w.section.first_page + j) Download) (λ x. omega arith) (only-found w P whole j s.copies lacking refl)))
+    (only_cond w P whole j s.copies (on_target w.section s.target j) (refused_at MissingBlock lacking) (refuse NoSuchPage (place_of (w.section.first_page + j)) Download) (λ x. omega arith) (only-found w P whole j s.copies lacking refl)))
     (only-target w P whole j s.copies s.target (w.section.first_page + j) P) in
     subst (PageAnswer w P s.copies s.target j) (sym (answer-built w s (program j) refl))
     (record {

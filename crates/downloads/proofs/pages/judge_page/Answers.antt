@@ -1,4 +1,4 @@
-use Rattle.std.proofs.Common.{◌≡◌, ℕ, ◌+◌, ◌*◌, ◌/◌, ◌<◌, min, Some, None, ap, ◌∙◌, subst}
+use Rattle.std.proofs.Common.{◌≡◌, ℕ, ◌+◌, ◌*◌, ◌/◌, ◌<◌, min, Some, None, ap, ◌∙◌, subst, arith}
 use Rattle.refusals.specs.declared.Reason.TheVariants.{MissingBlock}
 use Rattle.refusals.specs.declared.Layer.TheVariants.{Download}
 use Rattle.sections.specs.Meaning.{meaning_of}
@@ -15,9 +15,9 @@ returns-in-Some c t long many =
     let n = c.block_length.result in
     let j = c.args.j in
     let same : c.from-j.result ≡ j = c.from-j.ensures in
-    told c.new-in-Some.result MissingBlock c.in-Some.block Download c.new-in-Some.ensures
+    told c.new.result MissingBlock c.in-Some.block Download c.new.ensures
     ∙ page-found s c.args.body.now (marks_in c.args.arrivals.now) P j c.requires.page (subst (λ (k : ℕ). k * P < s.length) same c.if-j-page_length.false)
-    n c.blocks-2.result c.args.page_count c.block_length.ensures c.requires.store c.blocks-2.ensures (subst (λ (k : ℕ). k < c.args.page_count) (ap (λ (b : ℕ). s.first_page + b) same) c.if-place-page_count.false)
+    n c.blocks-2.result c.args.page_count c.block_length.ensures c.requires.store c.blocks-2.ensures (omega arith)
     (Some c.in-Some.block) c.first_needed.result c.min-end.result
     (c.first_needed.ensures ∙ ap (λ (k : ℕ). first_needed s.mode (k * (P / n))) same) (c.min-end.ensures ∙ ap (λ (k : ℕ). min (k * (P / n) + P / n) c.blocks-2.result) same) c.in-Some.ensures t long many
 
@@ -29,6 +29,6 @@ returns-in-None c t long many =
     let j = c.args.j in
     let same : c.from-j.result ≡ j = c.from-j.ensures in
     page-found s c.args.body.now (marks_in c.args.arrivals.now) P j c.requires.page (subst (λ (k : ℕ). k * P < s.length) same c.if-j-page_length.false)
-    n c.blocks-2.result c.args.page_count c.block_length.ensures c.requires.store c.blocks-2.ensures (subst (λ (k : ℕ). k < c.args.page_count) (ap (λ (b : ℕ). s.first_page + b) same) c.if-place-page_count.false)
+    n c.blocks-2.result c.args.page_count c.block_length.ensures c.requires.store c.blocks-2.ensures (omega arith)
     None c.first_needed.result c.min-end.result
     (c.first_needed.ensures ∙ ap (λ (k : ℕ). first_needed s.mode (k * (P / n))) same) (c.min-end.ensures ∙ ap (λ (k : ℕ). min (k * (P / n) + P / n) c.blocks-2.result) same) c.in-None.ensures t long many

@@ -1,4 +1,4 @@
-use Rattle.std.proofs.Common.{◌≡◌, ℕ, ◌+◌, ◌*◌, ◌<◌, length, sym, ap, ◌∙◌, subst, ap₂}
+use Rattle.std.proofs.Common.{◌≡◌, ℕ, ◌+◌, ◌*◌, ◌<◌, length, sym, ap, ◌∙◌, subst, ap₂, arith}
 use Rattle.std.proofs.lemmas.Result.{err_from_is_err_and}
 use Rattle.refusals.specs.declared.Reason.TheVariants.{WrongBuffer}
 use Rattle.refusals.specs.declared.Layer.TheVariants.{Download}
@@ -81,3 +81,14 @@ returns g c =
     let w = program-done map s body marks t j page right judged _ _ buffer made (c.prepare.auto.page ∙ parts.room-is)
     (c.program.ensures.answer ∙ ap (λ (p : ℕ). program_answer t p (length buffer)) place) (c.program.ensures.after ∙ ap (λ (p : ℕ). programmed t p buffer) place) in
     record { answer = w.answer; target = w.target; page = w.page-is }
+
+pub overflow_add-section : goal.overflow_add-section
+overflow_add-section g c =
+    let s = meaning_of c.args.section.now in
+    let map = g.C.BlockCipher.map c.args.cipher.now in
+    let t = g.T.Target.state c.args.target.now in
+    let body = c.args.body.now in
+    let marks = marks_in c.args.arrivals.now in
+    let ok = page-granted s t (copies_in (block_of s) body marks) c.args.j (sym (c.in_ok-judge_page.ensures t (sym c.page_length-long.ensures.value) (sym c.page_count.ensures))) in
+    let there : s.first_page + c.args.j < t.page_count = ok.there in
+    omega (arith, there, c.page_count.ensures)
