@@ -135,5 +135,6 @@ pub fn program<C: BlockCipher, T: Target>(
     }
     judge_page(section, body, arrivals, long, target.page_count(), j)?;
     prepare(section, cipher, body, target.fill(), u32::from(j), page);
-    target.program(section.first_page + u32::from(j), page)
+    let place = section.first_page + u32::from(j);
+    target.program(place, page)
 }

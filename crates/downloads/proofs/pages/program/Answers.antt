@@ -82,8 +82,8 @@ returns g c =
     (c.program.ensures.answer ∙ ap (λ (p : ℕ). program_answer t p (length buffer)) place) (c.program.ensures.after ∙ ap (λ (p : ℕ). programmed t p buffer) place) in
     record { answer = w.answer; target = w.target; page = w.page-is }
 
-pub overflow_add-section : goal.overflow_add-section
-overflow_add-section g c =
+pub overflow_add-place : goal.overflow_add-place
+overflow_add-place g c =
     let s = meaning_of c.args.section.now in
     let map = g.C.BlockCipher.map c.args.cipher.now in
     let t = g.T.Target.state c.args.target.now in
