@@ -7,7 +7,7 @@ A name that an .antt file of specs/ or proofs/ declares becomes snake case: `las
 `rounds-back` is `rounds_back`. A dash stays where it joins two definitions, as in `xored-length`. Names that begin
 with a capital are types, or letters of the standards (`L`, `LSX`), and keep it. Goals, which Rattle names, keep
 their names, and so does what Rust declares. Strings, inputs and outputs are not touched.
-Where a lemma would get its definition's name it ends in `_lem`; it stops where other names would fall together.
+Where a lemma or a field would get a definition's name it ends in `_lem`; it stops where other names would fall together.
 """
 import os
 import re
@@ -18,7 +18,7 @@ WORD = re.compile(r"[^\s(){}.;,@\"«»`|\[\]]+")
 STRING = re.compile(r'b?"(?:[^"\\\n]|\\.)*"')
 GOAL = re.compile(r"^(?:goal|need)\.")
 # words of the library that a dash may join
-LIBRARY = {"length", "take", "drop", "set", "get_or", "append", "replicate", "reverse", "map"}
+LIBRARY = {"length", "take", "drop", "set", "get_or", "append", "replicate", "reverse", "map", "bit_xor"}
 
 
 def files(ends):
@@ -38,8 +38,8 @@ def read(path):
 
 
 def declared():
-    """Own names, each with whether it is a definition that contracts or proofs compute with."""
-    names = {}
+    """Own names, each with whether it computes, or is a fact or a field; and the words that a dash may join."""
+    names, joined = {}, set(LIBRARY)
     for path in files((".antt",)):
         for line in read(path).split("\n"):
             word = line.strip()
@@ -47,9 +47,11 @@ def declared():
                 continue
             m = SIGNATURE.match(line)
             if m and m.group(2) not in ("_", "λ") and not GOAL.match(m.group(3)):
-                meant = "abbrev" in m.group(1) or "unfoldable" in m.group(1) or "/specs/" in path
-                names[m.group(2)] = names.get(m.group(2), False) or meant
-    return names
+                computes = "abbrev" in m.group(1) or "unfoldable" in m.group(1)
+                names[m.group(2)] = names.get(m.group(2), False) or computes
+                if computes and "pub" in m.group(1):
+                    joined.add(snake(m.group(2)))
+    return names, joined
 
 
 def snake(word):
@@ -59,15 +61,13 @@ def snake(word):
     return re.sub(r"(?<=[a-z0-9])([A-Z])", lambda m: "_" + m.group(1).lower(), word)
 
 
-def table(names):
-    meant = {snake(n) for n, is_meant in names.items() if is_meant and "-" not in n} | LIBRARY
+def table(names, joined):
     new = {}
     for name in names:
         parts = [snake(p) for p in name.split("-")]
         made = parts[0]
         for part in parts[1:]:
-            joins = made in meant and part in meant
-            made += ("-" if joins else "_") + part
+            made += ("-" if made in joined and part in joined else "_") + part
         made = made.replace("′", "'")
         if made != name:
             new[name] = made
@@ -75,8 +75,8 @@ def table(names):
 
 
 def main():
-    names = declared()
-    new = table(names)
+    names, joined = declared()
+    new = table(names, joined)
     taken = {}
     for name in names:
         taken.setdefault(new.get(name, name), set()).add(name)
@@ -84,6 +84,8 @@ def main():
     lemmas = set()
     for to, from_ in sorted(taken.items()):
         proved = {n for n in from_ if not names[n]}
+        if len(proved) > 1:
+            proved = {n for n in proved if "-" in n}
         if len(from_) > 1 and (len(proved) != 1 or len(from_) != 2 or to + "_lem" in taken):
             together = True
             print(f"fall together: {to}: {', '.join(sorted(from_))}", file=sys.stderr)
@@ -97,7 +99,7 @@ def main():
         name = m.group(0)
         # a plain lemma's name may also be a Rust function's, which is cited behind a dot
         behind = m.start() > 0 and m.string[m.start() - 1] == "."
-        return name if name in lemmas and (behind or not antt) else new.get(name, name)
+        return name if name in lemmas and "-" not in name and (behind or not antt) else new.get(name, name)
 
     def code(text):
         return WORD.sub(word, text)

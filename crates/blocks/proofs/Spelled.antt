@@ -14,5 +14,5 @@ spelled_is (suc n) i xs h =
     let e : suc i ≡ i + 1 = omega arith in
     rw (drop_more xs i 0 l, ← e) (ap (λ (ys : List ℕ). get_or xs i 0 ∷ ys) (spelled_is n (suc i) xs (omega arith)))
 
-pub spelled-all : (n : ℕ) (xs : List ℕ) → length xs ≡ n → spelled n 0 xs ≡ xs
-spelled-all n xs h = spelled_is n 0 xs (omega arith)
+pub spelled_all : (n : ℕ) (xs : List ℕ) → length xs ≡ n → spelled n 0 xs ≡ xs
+spelled_all n xs h = spelled_is n 0 xs (omega arith)

@@ -57,9 +57,9 @@ pub bytes_of-length : (n x : ℕ) → length (bytes_of n x) ≡ n
 bytes_of-length zero x = refl
 bytes_of-length (suc n) x = ap suc (bytes_of-length n (x / 256))
 
-pub bytes_of-bytes : (n x : ℕ) → Bytes (bytes_of n x)
-bytes_of-bytes zero x = tt
-bytes_of-bytes (suc n) x = (omega arith, bytes_of-bytes n (x / 256))
+pub bytes_of_bytes : (n x : ℕ) → Bytes (bytes_of n x)
+bytes_of_bytes zero x = tt
+bytes_of_bytes (suc n) x = (omega arith, bytes_of_bytes n (x / 256))
 
 -- a word as u32::to_le_bytes writes it
 pub word-written : (x : ℕ) → x % 256 ∷ x / 256 % 256 ∷ x / 65536 % 256 ∷ x / 16777216 % 256 ∷ [] ≡ bytes_of 4 x
@@ -69,13 +69,13 @@ word-written x =
     rw (p, q)
 
 -- a list of bytes is known by its elements
-pub bytes-from : (bs : List ℕ) → ((i : ℕ) → get_or bs i 0 < 256) → Bytes bs
-bytes-from bs h = All-from_get_or (λ b. b < 256) bs 0 (λ i l. h i)
+pub bytes_from : (bs : List ℕ) → ((i : ℕ) → get_or bs i 0 < 256) → Bytes bs
+bytes_from bs h = All-from_get_or (λ b. b < 256) bs 0 (λ i l. h i)
 
 -- a number of eight bytes as u64::to_le_bytes writes it
-pub long-written : (x : ℕ) →
+pub long_written : (x : ℕ) →
     x % 256 ∷ x / 256 % 256 ∷ x / 65536 % 256 ∷ x / 16777216 % 256 ∷ x / 4294967296 % 256 ∷ x / 1099511627776 % 256 ∷ x / 281474976710656 % 256 ∷ x / 72057594037927936 % 256 ∷ [] ≡ bytes_of 8 x
-long-written x =
+long_written x =
     let cut : ℕ → ℕ = λ n. n / 256 in
     let two : x / 65536 ≡ x / 256 / 256 = sym (shr-shr x 8 8) in
     let three : x / 16777216 ≡ x / 256 / 256 / 256 = sym (shr-shr x 16 8) ∙ ap cut two in

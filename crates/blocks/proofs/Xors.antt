@@ -10,10 +10,10 @@ xored-length [] ys = refl
 xored-length (x ∷ xs) [] = refl
 xored-length (x ∷ xs) (y ∷ ys) = ap suc (xored-length xs ys)
 
-pub xored-bytes : (xs ys : List ℕ) → Bytes xs → Bytes ys → Bytes (xored xs ys)
-xored-bytes [] ys a b = tt
-xored-bytes (x ∷ xs) [] a b = a
-xored-bytes (x ∷ xs) (y ∷ ys) a b = (xor_lt 8 x y a.0 b.0, xored-bytes xs ys a.1 b.1)
+pub xored_bytes : (xs ys : List ℕ) → Bytes xs → Bytes ys → Bytes (xored xs ys)
+xored_bytes [] ys a b = tt
+xored_bytes (x ∷ xs) [] a b = a
+xored_bytes (x ∷ xs) (y ∷ ys) a b = (xor_lt 8 x y a.0 b.0, xored_bytes xs ys a.1 b.1)
 
 -- what a place past the second list holds
 pub xored_none : (xs : List ℕ) → xored xs [] ≡ xs
@@ -39,8 +39,8 @@ xored-front zero (x ∷ xs) ys h = absurd (omega arith)
 xored-front (suc i) (x ∷ xs) [] h = refl
 xored-front (suc i) (x ∷ xs) (y ∷ ys) h = ap (λ (zs : List ℕ). bit_xor x y ∷ zs) (xored-front i xs ys (omega arith))
 
-pub xored-all : (i : ℕ) (xs ys : List ℕ) → min (length xs) (length ys) ≤ i → xored xs (take i ys) ≡ xored xs ys
-xored-all i xs ys h =
+pub xored_all : (i : ℕ) (xs ys : List ℕ) → min (length xs) (length ys) ≤ i → xored xs (take i ys) ≡ xored xs ys
+xored_all i xs ys h =
     elim (cases_lt i (length xs)) [
       | inl long ↦ ap (xored xs) (take_all i ys (omega arith))
       | inr short ↦ xored-front i xs ys short
@@ -74,16 +74,16 @@ xor_swap x y z = xor_assoc x y z ∙ ap (bit_xor x) (xor_comm y z)
 abbrev cons : ℕ → List ℕ → List ℕ
 cons h t = h ∷ t
 
-pub xored-undo : (xs ys : List ℕ) → xored (xored xs ys) ys ≡ xs
-xored-undo [] ys = refl
-xored-undo (x ∷ xs) [] = refl
-xored-undo (x ∷ xs) (y ∷ ys) = ap₂ cons (xor_undo x y) (xored-undo xs ys)
+pub xored_undo : (xs ys : List ℕ) → xored (xored xs ys) ys ≡ xs
+xored_undo [] ys = refl
+xored_undo (x ∷ xs) [] = refl
+xored_undo (x ∷ xs) (y ∷ ys) = ap₂ cons (xor_undo x y) (xored_undo xs ys)
 
-pub xored-back : (xs ys : List ℕ) → length ys ≡ length xs → xored xs (xored xs ys) ≡ ys
-xored-back [] [] h = refl
-xored-back [] (y ∷ ys) h = absurd (omega arith)
-xored-back (x ∷ xs) [] h = absurd (omega arith)
-xored-back (x ∷ xs) (y ∷ ys) h = ap₂ cons (xor_back x y) (xored-back xs ys (omega arith))
+pub xored_back : (xs ys : List ℕ) → length ys ≡ length xs → xored xs (xored xs ys) ≡ ys
+xored_back [] [] h = refl
+xored_back [] (y ∷ ys) h = absurd (omega arith)
+xored_back (x ∷ xs) [] h = absurd (omega arith)
+xored_back (x ∷ xs) (y ∷ ys) h = ap₂ cons (xor_back x y) (xored_back xs ys (omega arith))
 
 pub xored_swap : (xs ys zs : List ℕ) → length zs ≡ length xs → xored (xored xs ys) zs ≡ xored xs (xored zs ys)
 xored_swap [] ys zs h = refl

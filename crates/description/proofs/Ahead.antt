@@ -87,10 +87,10 @@ no_blank (x ∷ xs) =
       | inr n ↦ rw (ne_eqb x 32 n, ne_eqb x 32 n)
     ]
 
-at-end : (ys : List ℕ) → blank_len ys ≡ 0 → word_len ys ≡ 0 → (ahead ys ≡ []) × (drop 1 ys ≡ after_line ys)
+at_end : (ys : List ℕ) → blank_len ys ≡ 0 → word_len ys ≡ 0 → (ahead ys ≡ []) × (drop 1 ys ≡ after_line ys)
 unfolding ahead tokens words after_line
-at-end [] b w = (refl, refl)
-at-end (x ∷ xs) b w =
+at_end [] b w = (refl, refl)
+at_end (x ∷ xs) b w =
     elim (cases_eq x 32) [
       | inl e ↦ absurd (let more : blank_len xs + 1 ≡ 0 = rw (eq-eqb x 32 e) at b in omega arith)
       | inr n ↦ elim (cases_eq x 10) [
@@ -102,7 +102,7 @@ at-end (x ∷ xs) b w =
 -- no word is left on the line
 pub line_end : (xs : List ℕ) → word_len (drop (blank_len xs) xs) ≡ 0 → (ahead xs ≡ []) × (drop 1 (drop (blank_len xs) xs) ≡ after_line xs)
 line_end xs h =
-    let at = at-end (drop (blank_len xs) xs) (no_blank xs) h in (sym (blanks_ahead xs) ∙ at.0, at.1 ∙ blanks_after xs)
+    let at = at_end (drop (blank_len xs) xs) (no_blank xs) h in (sym (blanks_ahead xs) ∙ at.0, at.1 ∙ blanks_after xs)
 
 -- one word on
 pub word_next : (xs : List ℕ) → (word_len (drop (blank_len xs) xs) ≡ 0 → ⊥) →

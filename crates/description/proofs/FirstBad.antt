@@ -49,9 +49,9 @@ more_lines : (n : ℕ) (d : Draft) (ls ms : List (List ℕ)) (e : Code) → (e.n
 more_lines n d [] ms e bad q = absurd (omega (arith, completed_3 d e q, bad))
 more_lines n d (l ∷ ls) ms e bad q = onward_same n (judged_line d (tokens l)) _ _ e (λ next. more_lines (n + 1) next ls ms e bad) q
 
-pub first-bad : FirstBadLineDecides
+pub first_bad : FirstBadLineDecides
 unfolding judged_from
-first-bad text more e q bad h =
+first_bad text more e q bad h =
     let short : length text ≤ 4096 = omega (arith, length-append text (10 ∷ more)) in
     let whole : judged_lines 1 blank (lines text) ≡ Err e = sym (from_first text short) ∙ q in
     from_first (text ++ 10 ∷ more) h ∙ (ap (judged_lines 1 blank) (joined-lines text more) ∙ more_lines 1 blank (lines text) (lines more) e bad whole)

@@ -40,10 +40,10 @@ after_less (x ∷ (y ∷ ys)) h =
       | inr n ↦ rw (ne_eqb x 10 n) (omega (arith, after_less (y ∷ ys) (omega arith)))
     ]
 
-pub at-end : (n : ℕ) (d : Draft) (xs : List ℕ) → length xs ≡ 0 → judged_from n d xs ≡ completed d
+pub at_end : (n : ℕ) (d : Draft) (xs : List ℕ) → length xs ≡ 0 → judged_from n d xs ≡ completed d
 unfolding judged_from lines tokens words
-at-end n d [] h = refl
-at-end n d (x ∷ xs) h = absurd (omega arith)
+at_end n d [] h = refl
+at_end n d (x ∷ xs) h = absurd (omega arith)
 
 -- a line that is refused
 pub refused_line : (n : ℕ) (d : Draft) (xs : List ℕ) (why : Reason) → judged_line d (ahead xs) ≡ Err why → judged_from n d xs ≡ Err (refused why n)
@@ -59,14 +59,14 @@ unfolding judged_from ahead
 next_line n d d' xs h =
     elim (lines_step xs) [
       | inl e ↦ rw (e, h)
-      | inr p ↦ rw (p.0, h) (sym (at-end (n + 1) d' (after_line xs) (ap length p.1)))
+      | inr p ↦ rw (p.0, h) (sym (at_end (n + 1) d' (after_line xs) (ap length p.1)))
     ]
 
 -- a line that is taken; no line is counted at the end of the text
 pub taken_line : (n m : ℕ) (d d' : Draft) (xs ys : List ℕ) → judged_line d (ahead xs) ≡ Ok d' → ys ≡ after_line xs → (0 < length ys → m ≡ n + 1) → judged_from n d xs ≡ judged_from m d' ys
 taken_line n m d d' xs ys h e count =
     elim (cases_eq (length ys) 0) [
-      | inl z ↦ next_line n d d' xs h ∙ (at-end (n + 1) d' (after_line xs) (sym (ap length e) ∙ z) ∙ sym (at-end m d' ys z))
+      | inl z ↦ next_line n d d' xs h ∙ (at_end (n + 1) d' (after_line xs) (sym (ap length e) ∙ z) ∙ sym (at_end m d' ys z))
       | inr some ↦ let c : m ≡ n + 1 = count (omega arith) in rw (e, c) (next_line n d d' xs h)
     ]
 

@@ -21,13 +21,13 @@ prefixed_none : (ns : List ℕ) → prefixed ns None ≡ None
 prefixed_none [] = refl
 prefixed_none (n ∷ ns) = ap (added n) (prefixed_none ns)
 
-prefixed-some : (ns ms : List ℕ) → prefixed ns (Some ms) ≡ Some (ns ++ ms)
-prefixed-some [] ms = refl
-prefixed-some (n ∷ ns) ms = ap (added n) (prefixed-some ns ms)
+prefixed_some : (ns ms : List ℕ) → prefixed ns (Some ms) ≡ Some (ns ++ ms)
+prefixed_some [] ms = refl
+prefixed_some (n ∷ ns) ms = ap (added n) (prefixed_some ns ms)
 
-pub prefixed-all : (ns : List ℕ) → prefixed ns (Some []) ≡ Some ns
-prefixed-all [] = refl
-prefixed-all (n ∷ ns) = ap (added n) (prefixed-all ns)
+pub prefixed_all : (ns : List ℕ) → prefixed ns (Some []) ≡ Some ns
+prefixed_all [] = refl
+prefixed_all (n ∷ ns) = ap (added n) (prefixed_all ns)
 
 pub narrow_more : (ns : List ℕ) (n : ℕ) → narrow_row ns ≡ true → n ≤ 15 → narrow_row (ns ++ n ∷ []) ≡ true
 narrow_more [] n h small = rw (lt-ltb n 16 (omega arith))
@@ -59,17 +59,17 @@ pub stopped : (w : Word) (xs ys : List ℕ) (m n row : ℕ) (ns : List ℕ) → 
 stopped (word.Keyword k) xs ys m n row ns next not h = rw next.0 (no_number row ns)
 stopped (word.Number x) xs ys m n row ns next not h = absurd (not x refl)
 stopped (word.Other bytes) xs ys m n row ns next not h = rw next.0 (no_number row ns)
-stopped word.EndOfLine xs ys m n row ns next not h = rw (next.0, prefixed-all ns) (no_count row ns (λ e. omega arith))
+stopped word.EndOfLine xs ys m n row ns next not h = rw (next.0, prefixed_all ns) (no_count row ns (λ e. omega arith))
 
 -- a number over 15
 pub too_wide : (row : ℕ) (ns : List ℕ) (n : ℕ) (o : Option (List ℕ)) → 15 < n → NoRow (added row (prefixed ns (added n o)))
 too_wide row ns n None h = no_number row ns
-too_wide row ns n (Some ms) h = rw (prefixed-some ns (n ∷ ms)) (no_wide row (ns ++ n ∷ ms) (wide ns n ms h))
+too_wide row ns n (Some ms) h = rw (prefixed_some ns (n ∷ ms)) (no_wide row (ns ++ n ∷ ms) (wide ns n ms h))
 
 -- a word after the sixteenth number
 more_numbers : (row : ℕ) (ns : List ℕ) (n : ℕ) (o : Option (List ℕ)) → length ns ≡ 16 → NoRow (added row (prefixed ns (added n o)))
 more_numbers row ns n None h = no_number row ns
-more_numbers row ns n (Some ms) h = rw (prefixed-some ns (n ∷ ms)) (no_count row (ns ++ n ∷ ms) (λ e. omega (arith, length-append ns (n ∷ ms))))
+more_numbers row ns n (Some ms) h = rw (prefixed_some ns (n ∷ ms)) (no_count row (ns ++ n ∷ ms) (λ e. omega (arith, length-append ns (n ∷ ms))))
 
 pub too_many : (w : Word) (xs ys : List ℕ) (m n row : ℕ) (ns : List ℕ) → Next (seen w) xs m ys n → (w ≡ word.EndOfLine → ⊥) → length ns ≡ 16 → NoRow (added row (prefixed ns (all_numbers (ahead xs))))
 too_many (word.Keyword k) xs ys m n row ns next not h = rw next.0 (no_number row ns)

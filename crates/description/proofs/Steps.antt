@@ -12,8 +12,8 @@ pub digits_stop : (n x : ℕ) (xs : List ℕ) → (x < 48) ⊎ ((48 ≤ x) × (5
 digits_stop n x xs (inl a) = rw (lt-leb 48 x a)
 digits_stop n x xs (inr p) = rw (le-leb 48 x p.0, lt-leb x 57 p.1)
 
-pub number-within : (xs : List ℕ) → 1 ≤ length xs → length xs ≤ 5 → number_of xs ≡ digits_after 0 xs
-number-within xs a b = rw (le-leb 1 (length xs) a, le-leb (length xs) 5 b)
+pub number_within : (xs : List ℕ) → 1 ≤ length xs → length xs ≤ 5 → number_of xs ≡ digits_after 0 xs
+number_within xs a b = rw (le-leb 1 (length xs) a, le-leb (length xs) 5 b)
 
 pub more_digits : (n i d : ℕ) → n < 10 ^ i → d ≤ 9 → n * 10 + d < 10 ^ (i + 1)
 more_digits n i d h k = rw (add-one, pow-suc) (omega arith)

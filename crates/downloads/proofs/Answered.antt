@@ -19,9 +19,9 @@ use Rattle.downloads.specs.Frames.{block_of, blocks_of, good_store, good_frame, 
 pub told : {X : Type 0} (e : Refusal) (why : Reason) (place : ℕ) (layer : Layer) → e ≡ record { reason = why; place = place; layer = layer } → ◌≡◌ {A = Result X Code} (Err (code_of e)) (Err (refuse why place layer))
 told {X} e why place layer h = ap (λ (r : Refusal). Err (code_of r)) h
 
-pub block-some : (k : CipherKind) → 0 < block_length k
-block-some Gost = omega arith
-block-some Kuznyechik = omega arith
+pub block_some : (k : CipherKind) → 0 < block_length k
+block_some Gost = omega arith
+block_some Kuznyechik = omega arith
 
 pub block_small : (k : CipherKind) → block_length k ≤ 16
 block_small Gost = omega arith
@@ -30,8 +30,8 @@ block_small Kuznyechik = omega arith
 pub image_small : (L : ℕ) → allowed_image L ≡ true → L ≤ 16384
 image_small L h = leb-true L 16384 (and_parts (leb 9 L) (leb L 16384) h).1
 
-pub image-some : (L : ℕ) → allowed_image L ≡ true → 0 < L
-image-some L h = omega (arith, leb-true 9 L (and_parts (leb 9 L) (leb L 16384) h).0)
+pub image_some : (L : ℕ) → allowed_image L ≡ true → 0 < L
+image_some L h = omega (arith, leb-true 9 L (and_parts (leb 9 L) (leb L 16384) h).0)
 
 pub store_parts : (s : Described) (body marks : ℕ) → good_store s body marks ≡ true → (body ≡ s.length) × (marks ≡ blocks_of s)
 store_parts s body marks h =
@@ -52,18 +52,18 @@ module _ (s : Described) (body marks : ℕ) (copies : Copies) (f : ℕ) (frame :
   unfolding frame_answer
   frame_unsized h = rw (← h)
 
-  pub frame-bad : true ≡ good_store s body marks → false ≡ good_frame (block_of s) s.length f (length frame) → Err (refuse BadBlock f Download) ≡ frame_answer s body marks copies f frame
+  pub frame_bad : true ≡ good_store s body marks → false ≡ good_frame (block_of s) s.length f (length frame) → Err (refuse BadBlock f Download) ≡ frame_answer s body marks copies f frame
   unfolding frame_answer
-  frame-bad h k = rw (← h, ← k)
+  frame_bad h k = rw (← h, ← k)
 
   pub frame_found : (o : Option ℕ) → true ≡ good_store s body marks → true ≡ good_frame (block_of s) s.length f (length frame) →
       o ≡ lowest (conflicts (block_of s) copies f frame) 0 (blocks_of s) → refused_at Conflict o ≡ frame_answer s body marks copies f frame
   unfolding frame_answer
   frame_found o h k e = rw (← h, ← k) (ap (refused_at Conflict) e)
 
-  pub frame-granted : frame_answer s body marks copies f frame ≡ Ok tt → (good_store s body marks ≡ true) × (good_frame (block_of s) s.length f (length frame) ≡ true)
+  pub frame_granted : frame_answer s body marks copies f frame ≡ Ok tt → (good_store s body marks ≡ true) × (good_frame (block_of s) s.length f (length frame) ≡ true)
   unfolding frame_answer
-  frame-granted e =
+  frame_granted e =
       let a = ok_sized (good_store s body marks) (frame_judged s copies f frame) tt e in
       (a.0, (ok_cond (good_frame (block_of s) s.length f (length frame)) _ _ tt a.1).0)
 
@@ -71,6 +71,6 @@ module _ (s : Described) (body marks : ℕ) (copies : Copies) (f : ℕ) (frame :
   unfolding close_answer
   close_unsized h = rw (← h)
 
-  pub close-found : (o : Option ℕ) → true ≡ good_store s body marks → o ≡ lowest (lacks copies) 0 (blocks_of s) → refused_at MissingBlock o ≡ close_answer s body marks copies
+  pub close_found : (o : Option ℕ) → true ≡ good_store s body marks → o ≡ lowest (lacks copies) 0 (blocks_of s) → refused_at MissingBlock o ≡ close_answer s body marks copies
   unfolding close_answer
-  close-found o h e = rw (← h) (ap (refused_at MissingBlock) e)
+  close_found o h e = rw (← h) (ap (refused_at MissingBlock) e)

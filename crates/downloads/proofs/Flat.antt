@@ -25,12 +25,12 @@ all_drop P zero pages h = h
 all_drop P (suc k) [] h = tt
 all_drop P (suc k) (page ∷ pages) h = all_drop P k pages h.1
 
-all-at : (P k : ℕ) (pages : List (List ℕ)) → AllByRecursion (Long P) pages → k < length pages → length (get_or pages k []) ≡ P
-all-at P k [] h l = absurd (omega arith)
-all-at P zero (page ∷ pages) h l = h.0
-all-at P (suc k) (page ∷ pages) h l = all-at P k pages h.1 (omega arith)
+all_at : (P k : ℕ) (pages : List (List ℕ)) → AllByRecursion (Long P) pages → k < length pages → length (get_or pages k []) ≡ P
+all_at P k [] h l = absurd (omega arith)
+all_at P zero (page ∷ pages) h l = h.0
+all_at P (suc k) (page ∷ pages) h l = all_at P k pages h.1 (omega arith)
 
 -- page k is where it lies
-pub flat-page : (P k : ℕ) (pages : List (List ℕ)) → AllByRecursion (Long P) pages → k < length pages → take P (drop (P * k) (flat pages)) ≡ get_or pages k []
-flat-page P k pages h l =
-    ap (take P) (flat-drop P k pages h (omega arith) ∙ ap flat (drop-cons pages k [] l)) ∙ take_at (get_or pages k []) (flat (drop (suc k) pages)) P (all-at P k pages h l)
+pub flat_page : (P k : ℕ) (pages : List (List ℕ)) → AllByRecursion (Long P) pages → k < length pages → take P (drop (P * k) (flat pages)) ≡ get_or pages k []
+flat_page P k pages h l =
+    ap (take P) (flat-drop P k pages h (omega arith) ∙ ap flat (drop-cons pages k [] l)) ∙ take_at (get_or pages k []) (flat (drop (suc k) pages)) P (all_at P k pages h l)

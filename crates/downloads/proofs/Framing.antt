@@ -49,16 +49,16 @@ pub place : (n f k : ℕ) → f ≤ k → n * f + n * (k - f) ≡ n * k
 place n f k h = let e : f + (k - f) ≡ k = omega arith in sym (mul-add n f (k - f)) ∙ ap (λ (x : ℕ). n * x) e
 
 -- a block that begins in whole blocks lies in them
-pub whole-next : (n j bytes : ℕ) → 0 < n → bytes % n ≡ 0 → n * j < bytes → n * j + n ≤ bytes
-whole-next n j bytes pos e l =
+pub whole_next : (n j bytes : ℕ) → 0 < n → bytes % n ≡ 0 → n * j < bytes → n * j + n ≤ bytes
+whole_next n j bytes pos e l =
     let q : n * (bytes / n) ≡ bytes = omega (arith, div-add-mod' bytes n, mul_comm n (bytes / n)) in
     let lt : j < bytes / n = lt_of_mul-lt-mul_right n (omega (arith, mul_comm n j, mul_comm n (bytes / n))) in
     let le : j + 1 ≤ bytes / n = omega arith in
     omega (arith, mul-le-mul_left n le, mul-add n j 1, mul-one n)
 
 -- the blocks that are covered are those from f on, as many as the frame has
-pub covers-is : (n f bytes k : ℕ) → 0 < n → covers n f bytes k ≡ (leb f k && ltb k (f + block_count n bytes))
-covers-is n f bytes k pos =
+pub covers_is : (n f bytes k : ℕ) → 0 < n → covers n f bytes k ≡ (leb f k && ltb k (f + block_count n bytes))
+covers_is n f bytes k pos =
     elim (cases_lt k f) [
       | inl low ↦ rw (lt-leb f k low)
       | inr high ↦ elim (cases_lt (n * (k - f)) bytes) [
@@ -68,8 +68,8 @@ covers-is n f bytes k pos =
     ]
 
 -- as many marks as blocks
-pub blocks-within : (n L f bytes : ℕ) → 0 < n → n * f + bytes ≤ L → 0 < bytes → f + block_count n bytes ≤ block_count n L
-blocks-within n L f bytes pos h some =
+pub blocks_within : (n L f bytes : ℕ) → 0 < n → n * f + bytes ≤ L → 0 < bytes → f + block_count n bytes ≤ block_count n L
+blocks_within n L f bytes pos h some =
     let m : ℕ = block_count n bytes in
     let k : ℕ = f + (m - 1) in
     let one : 0 < m = index_in n 0 bytes pos (omega arith) in
@@ -100,7 +100,7 @@ module _ (n f : ℕ) (body frame : List ℕ) (pos : 0 < n) (within : n * f + len
       ∙ (ap (take n) (drop_in (n * (k - f)) (omega arith))
       ∙ elim shape [
         | inl w ↦
-            let room = whole-next n (k - f) (length frame) pos w l in
+            let room = whole_next n (k - f) (length frame) pos w l in
             let long : n ≤ length (drop (n * (k - f)) frame) = simp length-drop (omega arith) in
             take-append-le n (drop (n * (k - f)) frame) rest long
         | inr w ↦
@@ -131,13 +131,13 @@ module _ (n f : ℕ) (body frame : List ℕ) (pos : 0 < n) (within : n * f + len
       ]
 
 -- the copies that a frame leaves
-pub copies-taken : (n f : ℕ) (body frame : List ℕ) (marks : List Arrival) → 0 < n → length marks ≡ block_count n (length body) → Framed n (length body) f (length frame) →
+pub copies_taken : (n f : ℕ) (body frame : List ℕ) (marks : List Arrival) → 0 < n → length marks ≡ block_count n (length body) → Framed n (length body) f (length frame) →
     copies_in n (body_after n f frame body) (marks_after n f frame marks) ≡ with_frame n (copies_in n body marks) f frame
 unfolding copies_in with_frame
-copies-taken n f body frame marks pos size fr =
-    let room = blocks-within n (length body) f (length frame) pos fr.within fr.some in
+copies_taken n f body frame marks pos size fr =
+    let room = blocks_within n (length body) f (length frame) pos fr.within fr.some in
     let marked : (k : ℕ) → arrived_at (marks_after n f frame marks) k ≡ (covers n f (length frame) k || arrived_at marks k) =
-    λ k. marked_at f (block_count n (length frame)) marks (omega arith) k ∙ ap (λ (b : Bool). b || arrived_at marks k) (sym (covers-is n f (length frame) k pos)) in
+    λ k. marked_at f (block_count n (length frame)) marks (omega arith) k ∙ ap (λ (b : Bool). b || arrived_at marks k) (sym (covers_is n f (length frame) k pos)) in
     let here : (k : ℕ) → copies_in n (body_after n f frame body) (marks_after n f frame marks) k ≡ with_frame n (copies_in n body marks) f frame k =
     λ k. elim (cases_Bool (covers n f (length frame) k)) [
       | inl c ↦
@@ -158,15 +158,15 @@ pub conflicts_in : (n : ℕ) (copies : Copies) (f : ℕ) (frame : List ℕ) (k :
 conflicts_in n copies f frame k h l = rw (le-leb f k h, lt-ltb (n * (k - f)) (length frame) l)
 
 -- no block that is not covered
-pub conflicts-out : (n : ℕ) (copies : Copies) (f : ℕ) (frame : List ℕ) (k : ℕ) → 0 < n → (k < f) ⊎ (f + block_count n (length frame) ≤ k) → conflicts n copies f frame k ≡ false
-conflicts-out n copies f frame k pos h =
+pub conflicts_out : (n : ℕ) (copies : Copies) (f : ℕ) (frame : List ℕ) (k : ℕ) → 0 < n → (k < f) ⊎ (f + block_count n (length frame) ≤ k) → conflicts n copies f frame k ≡ false
+conflicts_out n copies f frame k pos h =
     and_left (covers n f (length frame) k) (differs (copies k) (block_in n f frame k))
-    (covers-is n f (length frame) k pos
+    (covers_is n f (length frame) k pos
     ∙ elim h [ inl low ↦ and_left (leb f k) (ltb k (f + block_count n (length frame))) (lt-leb f k low) | inr high ↦ and_right (leb f k) (ltb k (f + block_count n (length frame))) (le-ltb k (f + block_count n (length frame)) high) ])
 
-pub conflict-missing : (n : ℕ) (body : List ℕ) (marks : List Arrival) (f : ℕ) (frame : List ℕ) (k : ℕ) → arrived_at marks k ≡ false → conflicts n (copies_in n body marks) f frame k ≡ false
+pub conflict_missing : (n : ℕ) (body : List ℕ) (marks : List Arrival) (f : ℕ) (frame : List ℕ) (k : ℕ) → arrived_at marks k ≡ false → conflicts n (copies_in n body marks) f frame k ≡ false
 unfolding copies_in
-conflict-missing n body marks f frame k t =
+conflict_missing n body marks f frame k t =
     and_right (covers n f (length frame) k) _ (ap (λ (o : Option (List ℕ)). differs o (block_in n f frame k)) (cond-false (arrived_at marks k) (Some (block n k body)) None t))
 
 pub conflict_arrived : (n : ℕ) (body : List ℕ) (marks : List Arrival) (f : ℕ) (frame : List ℕ) (k : ℕ) → f ≤ k → n * (k - f) < length frame → arrived_at marks k ≡ true → conflicts n (copies_in n body marks) f frame k ≡ not (bytes_eq (block n k body) (block_in n f frame k))
@@ -184,16 +184,16 @@ cut n xs a w (inr e) =
 
 -- the two parts that are compared are the blocks
 module _ (n f i e : ℕ) (body frame : List ℕ) (pos : 0 < n) (l : n * i < length frame) (fr : Framed n (length body) f (length frame)) (end : e ≡ min (n * i + n) (length frame)) where
-  pub cut-frame : take (e - n * i) (drop (n * i) frame) ≡ block n i frame
-  cut-frame =
+  pub cut_frame : take (e - n * i) (drop (n * i) frame) ≡ block n i frame
+  cut_frame =
       cut n frame (n * i) (e - n * i)
       (elim (cases_lt (n * i + n) (length frame)) [ inl a ↦ inl (omega arith) | inr a ↦ inr (omega arith, omega arith) ])
 
-  pub cut-body : take (n * f + e - (n * f + n * i)) (drop (n * f + n * i) body) ≡ block n (f + i) body
-  cut-body =
+  pub cut_body : take (n * f + e - (n * f + n * i)) (drop (n * f + n * i) body) ≡ block n (f + i) body
+  cut_body =
       cut n body (n * f + n * i) (n * f + e - (n * f + n * i))
       (elim fr.shape [
-        | inl w ↦ let room = whole-next n i (length frame) pos w l in inl (omega arith)
+        | inl w ↦ let room = whole_next n i (length frame) pos w l in inl (omega arith)
         | inr w ↦ elim (cases_lt (n * i + n) (length frame)) [ inl a ↦ inl (omega arith) | inr a ↦ inr (omega arith, omega arith) ]
       ])
       ∙ ap (λ (x : ℕ). take n (drop x body)) (sym (mul-add n f i))

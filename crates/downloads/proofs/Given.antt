@@ -19,8 +19,8 @@ use Rattle.downloads.specs.Copies.{Copies, lacks, copy_at, copies_in, refused_at
 use Rattle.downloads.specs.Frames.{block_of, blocks_of, good_store}
 use Rattle.downloads.specs.Blocks.{depends, first_needed, block_bytes, plain_from, give_judged, give_answer, out_after}
 use Rattle.downloads.proofs.Lowest.{none_found}
-use Rattle.downloads.proofs.Marks.{lacks-is}
-use Rattle.downloads.proofs.Windows.{in_window, window, depends-is, depends-test}
+use Rattle.downloads.proofs.Marks.{lacks_is}
+use Rattle.downloads.proofs.Windows.{in_window, window, depends_is, depends_test}
 use Rattle.downloads.proofs.Answered.{store_parts, ok_cond}
 
 pub copy_is : (n : ℕ) (body : List ℕ) (marks : List Arrival) (k : ℕ) → arrived_at marks k ≡ true → copy_at (copies_in n body marks) k ≡ block n k body
@@ -39,7 +39,7 @@ missing_in n body marks lo hi m wanted fits is =
     window lo hi m (λ k. wanted k && lacks copies k) (λ k. not (arrived_at marks k)) fits
     (λ k a b.
     let w : wanted k ≡ true = is k ∙ rw (le-leb lo k a, lt-ltb k hi b) in
-    ap (λ (x : Bool). x && lacks copies k) w ∙ lacks-is n body marks k)
+    ap (λ (x : Bool). x && lacks copies k) w ∙ lacks_is n body marks k)
     (λ k o. and_left (wanted k) (lacks copies k) (is k ∙ o))
 
 module _ (s : Described) (body : List ℕ) (marks : List Arrival) (i : ℕ) (store : good_store s (length body) (length marks) ≡ true) where
@@ -49,26 +49,26 @@ module _ (s : Described) (body : List ℕ) (marks : List Arrival) (i : ℕ) (sto
   counted : length marks ≡ blocks_of s
   counted = (store_parts s (length body) (length marks) store).1
 
-  pub give-found : (o : Option ℕ) → i < length marks → o ≡ missing_from marks (first_needed s.mode i) (i + 1 - first_needed s.mode i) → refused_at MissingBlock o ≡ give_judged s copies i
-  give-found o l e =
+  pub give_found : (o : Option ℕ) → i < length marks → o ≡ missing_from marks (first_needed s.mode i) (i + 1 - first_needed s.mode i) → refused_at MissingBlock o ≡ give_judged s copies i
+  give_found o l e =
       let in' : i < blocks_of s = omega (arith, counted) in
-      rw (lt-ltb i (blocks_of s) in') (ap (refused_at MissingBlock) (e ∙ missing_in (block_of s) body marks (first_needed s.mode i) (i + 1) (blocks_of s) (depends s.mode i) (omega arith) (depends-is s.mode i)))
+      rw (lt-ltb i (blocks_of s) in') (ap (refused_at MissingBlock) (e ∙ missing_in (block_of s) body marks (first_needed s.mode i) (i + 1) (blocks_of s) (depends s.mode i) (omega arith) (depends_is s.mode i)))
 
 -- what is known of a block that is given
-pub give-granted : (s : Described) (copies : Copies) (i : ℕ) → give_judged s copies i ≡ Ok tt → (i < blocks_of s) × ((k : ℕ) → Depends s.mode i k → lacks copies k ≡ false)
-give-granted s copies i e =
+pub give_granted : (s : Described) (copies : Copies) (i : ℕ) → give_judged s copies i ≡ Ok tt → (i < blocks_of s) × ((k : ℕ) → Depends s.mode i k → lacks copies k ≡ false)
+give_granted s copies i e =
     let a = ok_cond (ltb i (blocks_of s)) (refused_at MissingBlock (lowest (λ k. depends s.mode i k && lacks copies k) 0 (blocks_of s))) (refuse BadBlock i Download) tt e in
     let l = ltb-true i (blocks_of s) a.0 in
     let none = none_found (λ k. depends s.mode i k && lacks copies k) (blocks_of s) 0 (none_at MissingBlock _ a.1) in
-    (l, λ k d. sym (ap (λ (x : Bool). x && lacks copies k) (depends-test s.mode i k d)) ∙ none k (omega arith) (omega (arith, depends_le s.mode i k d)))
+    (l, λ k d. sym (ap (λ (x : Bool). x && lacks copies k) (depends_test s.mode i k d)) ∙ none k (omega arith) (omega (arith, depends_le s.mode i k d)))
 
 -- it is made from the copies as from the body
-pub plain-is : (c : BlockMap) (s : Described) (body : List ℕ) (marks : List Arrival) (i : ℕ) → c.size ≡ block_of s → ((k : ℕ) → Depends s.mode i k → lacks (copies_in (block_of s) body marks) k ≡ false) →
+pub plain_is : (c : BlockMap) (s : Described) (body : List ℕ) (marks : List Arrival) (i : ℕ) → c.size ≡ block_of s → ((k : ℕ) → Depends s.mode i k → lacks (copies_in (block_of s) body marks) k ≡ false) →
     plain_from c s (copies_in (block_of s) body marks) i ≡ plain_of c s.mode s.sync body i
-plain-is c s body marks i size have =
+plain_is c s body marks i size have =
     plain_same s.mode c _ (copy_at (copies_in (block_of s) body marks)) (λ k. block c.size k body) i
     (λ k d.
-    let here : arrived_at marks k ≡ true = arrived (arrived_at marks k) (sym (lacks-is (block_of s) body marks k) ∙ have k d) in
+    let here : arrived_at marks k ≡ true = arrived (arrived_at marks k) (sym (lacks_is (block_of s) body marks k) ∙ have k d) in
     copy_is (block_of s) body marks k here ∙ ap (λ (n : ℕ). block n k body) (sym size))
   where
     arrived : (b : Bool) → not b ≡ false → b ≡ true
@@ -92,13 +92,13 @@ module _ (c : BlockMap) (s : Described) (body marks : ℕ) (copies : Copies) (i 
   unfolding give_answer
   give_unsized h = gives (Err (refuse WrongBuffer 0 Download)) out (rw (← h)) refl
 
-  pub give-refused : (e : Code) → true ≡ right → Err e ≡ give_judged s copies i → Gives (Err e) out
+  pub give_refused : (e : Code) → true ≡ right → Err e ≡ give_judged s copies i → Gives (Err e) out
   unfolding give_answer
-  give-refused e h j = gives (Err e) out (rw (← h) (ap (λ (r : Result Unit Code). then r (λ _. Ok (block_bytes s i))) j)) refl
+  give_refused e h j = gives (Err e) out (rw (← h) (ap (λ (r : Result Unit Code). then r (λ _. Ok (block_bytes s i))) j)) refl
 
-  pub give-done : true ≡ right → Ok tt ≡ give_judged s copies i → (after : List ℕ) → after ≡ front (plain_from c s copies i) out → Gives (Ok (block_bytes s i)) after
+  pub give_done : true ≡ right → Ok tt ≡ give_judged s copies i → (after : List ℕ) → after ≡ front (plain_from c s copies i) out → Gives (Ok (block_bytes s i)) after
   unfolding give_answer
-  give-done h j after e = gives (Ok (block_bytes s i)) after (rw (← h) (ap (λ (r : Result Unit Code). then r (λ _. Ok (block_bytes s i))) j)) e
+  give_done h j after e = gives (Ok (block_bytes s i)) after (rw (← h) (ap (λ (r : Result Unit Code). then r (λ _. Ok (block_bytes s i))) j)) e
 
 -- the parts as a call compares them
 pub parts_are : (s : Described) (n n' body m m' room w w' : ℕ) → n ≡ n' → m ≡ m' → w ≡ w' →
@@ -110,13 +110,13 @@ parts_are s n n' body m m' room w w' p q r =
 pub record Parts (s : Described) (n body m room w : ℕ) : Type 0 where
   pub size : n ≡ block_of s
   pub store : good_store s body m ≡ true
-  pub room-is : room ≡ w
+  pub room_is : room ≡ w
 
 pub parts_from : (s : Described) (n body m room w : ℕ) → (eqb n (block_of s) && (good_store s body m && eqb room w)) ≡ true → Parts s n body m room w
 parts_from s n body m room w h =
     let a = and_parts (eqb n (block_of s)) (good_store s body m && eqb room w) h in
     let b = and_parts (good_store s body m) (eqb room w) a.1 in
-    record { size = eqb-true n (block_of s) a.0; store = b.0; room-is = eqb-true room w b.1 }
+    record { size = eqb-true n (block_of s) a.0; store = b.0; room_is = eqb-true room w b.1 }
 
 -- a mode, sync and length that a section keeps
 pub section-judged : (s : Described) (n body : ℕ) → n ≡ block_of s → body ≡ s.length → agrees (block_of s) s.mode s.sync ≡ true → whole_in s.mode (block_of s) s.length ≡ true →
@@ -138,14 +138,14 @@ module _ (c : BlockMap) (s : Described) (body : List ℕ) (marks : List Arrival)
   long = (store_parts s (length body) (length marks) parts.store).0
 
   granted : (i < blocks_of s) × ((k : ℕ) → Depends s.mode i k → lacks held k ≡ false)
-  granted = give-granted s held i (sym judged)
+  granted = give_granted s held i (sym judged)
 
   inside : i < block_count c.size (length body)
   inside = subst (λ (m : ℕ). i < m) (ap₂ (λ (n L : ℕ). block_count n L) (sym parts.size) (sym long)) granted.0
 
   answered : block_answer c.size s.mode s.sync body i (length out) ≡ Ok (length (block c.size i body))
   answered =
-      rw (eq-eqb (length out) c.size (parts.room-is ∙ sym parts.size), section-judged s c.size (length body) parts.size long agreed whole, lt-ltb i (block_count c.size (length body)) inside)
+      rw (eq-eqb (length out) c.size (parts.room_is ∙ sym parts.size), section-judged s c.size (length body) parts.size long agreed whole, lt-ltb i (block_count c.size (length body)) inside)
 
   bytes : length (block c.size i body) ≡ block_bytes s i
   bytes = length-block c.size i body ∙ ap₂ (λ (n L : ℕ). min n (L - n * i)) parts.size long
@@ -153,7 +153,7 @@ module _ (c : BlockMap) (s : Described) (body : List ℕ) (marks : List Arrival)
   pub given_is : (r : Result ℕ Code) (after : List ℕ) → r ≡ block_answer c.size s.mode s.sync body i (length out) → after ≡ buffer_after c s.mode s.sync body i out →
       Gives c s (length body) (length marks) held i out r after
   given_is r after e o =
-      let d = give-done c s (length body) (length marks) held i out is_right judged after
+      let d = give_done c s (length body) (length marks) held i out is_right judged after
       (o ∙ (ap (λ (q : Result ℕ Code). unless q out (front (plain_of c s.mode s.sync body i) out)) answered
-      ∙ ap (λ (x : List ℕ). front x out) (sym (plain-is c s body marks i parts.size granted.1)))) in
+      ∙ ap (λ (x : List ℕ). front x out) (sym (plain_is c s body marks i parts.size granted.1)))) in
       (e ∙ (answered ∙ (ap Ok bytes ∙ d.0)), d.1)

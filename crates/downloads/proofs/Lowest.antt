@@ -3,13 +3,13 @@ use Rattle.std.proofs.Common.{◌≡◌, ℕ, zero, suc, ◌+◌, ◌<◌, ◌�
 use Rattle.std.proofs.lemmas.Bool.{cond-true, cond-false, cases_Bool, cases_eq, false≢true}
 use Rattle.downloads.specs.Marks.{lowest}
 
-pub lowest-is : (test : ℕ → Bool) (m j k : ℕ) → j ≤ k → k < j + m → test k ≡ true → ((i : ℕ) → j ≤ i → i < k → test i ≡ false) → lowest test j m ≡ Some k
-lowest-is test zero j k a b t f = absurd (omega arith)
-lowest-is test (suc m) j k a b t f =
+pub lowest_is : (test : ℕ → Bool) (m j k : ℕ) → j ≤ k → k < j + m → test k ≡ true → ((i : ℕ) → j ≤ i → i < k → test i ≡ false) → lowest test j m ≡ Some k
+lowest_is test zero j k a b t f = absurd (omega arith)
+lowest_is test (suc m) j k a b t f =
     elim (cases_eq j k) [
       | inl e ↦ cond-true (test j) (Some j) (lowest test (suc j) m) (ap test e ∙ t) ∙ ap Some e
       | inr ne ↦ let lt : j < k = omega arith in
-          cond-false (test j) (Some j) (lowest test (suc j) m) (f j (omega arith) lt) ∙ lowest-is test m (suc j) k (omega arith) (omega arith) t (λ i x y. f i (omega arith) y)
+          cond-false (test j) (Some j) (lowest test (suc j) m) (f j (omega arith) lt) ∙ lowest_is test m (suc j) k (omega arith) (omega arith) t (λ i x y. f i (omega arith) y)
     ]
 
 pub lowest_none : (test : ℕ → Bool) (m j : ℕ) → ((i : ℕ) → j ≤ i → i < j + m → test i ≡ false) → lowest test j m ≡ None
@@ -46,8 +46,8 @@ none_found test (suc m) j e i a b =
     ]
 
 -- one that passes is found, or a lower one
-pub some-found : (test : ℕ → Bool) (m j i : ℕ) → j ≤ i → i < j + m → test i ≡ true → is_some (lowest test j m) ≡ true
-some-found test m j i a b t = by_answer (lowest test j m) refl
+pub some_found : (test : ℕ → Bool) (m j i : ℕ) → j ≤ i → i < j + m → test i ≡ true → is_some (lowest test j m) ≡ true
+some_found test m j i a b t = by_answer (lowest test j m) refl
   where
     by_answer : (o : Option ℕ) → lowest test j m ≡ o → is_some o ≡ true
     by_answer (Some k) e = refl

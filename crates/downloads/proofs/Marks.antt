@@ -39,12 +39,12 @@ marked_at f m marks h k =
     ]
 
 -- a block lacks a copy if it has not arrived
-pub lacks-is : (n : ℕ) (body : List ℕ) (marks : List Arrival) (k : ℕ) → lacks (copies_in n body marks) k ≡ not (arrived_at marks k)
+pub lacks_is : (n : ℕ) (body : List ℕ) (marks : List Arrival) (k : ℕ) → lacks (copies_in n body marks) k ≡ not (arrived_at marks k)
 unfolding copies_in
-lacks-is n body marks k = elim (cases_Bool (arrived_at marks k)) [ inl t ↦ rw t | inr t ↦ rw t ]
+lacks_is n body marks k = elim (cases_Bool (arrived_at marks k)) [ inl t ↦ rw t | inr t ↦ rw t ]
 
 pub lacks_are : (n : ℕ) (body : List ℕ) (marks : List Arrival) → lacks (copies_in n body marks) ≡ (λ k. not (arrived_at marks k))
-lacks_are n body marks = λ i k. lacks-is n body marks k i
+lacks_are n body marks = λ i k. lacks_is n body marks k i
 
 -- a record has at most 2,048 marks
 pub marks_few : (r : ArrivalRecord) → length (marks_in r) ≤ 2048

@@ -16,7 +16,7 @@ use Rattle.downloads.specs.Pages.{place_of, first_in, count_in, needs, page_judg
 use Rattle.downloads.proofs.Answered.{store_parts}
 use Rattle.downloads.proofs.Given.{missing_in}
 use Rattle.downloads.proofs.Windows.{run-needs}
-use Rattle.downloads.proofs.Prepared.{page_low, page_ends, page-some_blocks}
+use Rattle.downloads.proofs.Prepared.{page_low, page_ends, page_some_blocks}
 
 module _ (s : Described) (body : List ℕ) (marks : List Arrival) (P j : ℕ) (allowed : allowed_length P ≡ true) (inside : j * P < s.length) where
   abbrev copies : Copies
@@ -26,16 +26,16 @@ module _ (s : Described) (body : List ℕ) (marks : List Arrival) (P j : ℕ) (a
   from = first_in P s j
 
   -- the lowest of them that has not arrived
-  missing-needed : missing_from marks (first_needed s.mode from) (from + count_in P s j - first_needed s.mode from) ≡ lowest (λ k. needs P s j k && lacks copies k) 0 (blocks_of s)
-  missing-needed =
+  missing_needed : missing_from marks (first_needed s.mode from) (from + count_in P s j - first_needed s.mode from) ≡ lowest (λ k. needs P s j k && lacks copies k) 0 (blocks_of s)
+  missing_needed =
       missing_in (block_of s) body marks (first_needed s.mode from) (from + count_in P s j) (blocks_of s) (needs P s j) (page_ends s P j allowed inside)
-      (λ k. run-needs s.mode from (count_in P s j) k (page-some_blocks s P j allowed inside))
+      (λ k. run-needs s.mode from (count_in P s j) k (page_some_blocks s P j allowed inside))
 
   -- and as a call finds it, with blocks of n bytes and m marks
   module _ (n m count : ℕ) (size : n ≡ block_of s) (store : good_store s (length body) (length marks) ≡ true) (counted : m ≡ length marks) (there : s.first_page + j < count) (o : Option ℕ) (lo hi : ℕ)
       (low : lo ≡ first_needed s.mode (j * (P / n))) (high : hi ≡ min (j * (P / n) + P / n) m) (found : o ≡ missing_from marks lo (hi - lo)) where
-    pub page-found : (t : TargetState) → t.page_length ≡ P → t.page_count ≡ count → refused_at MissingBlock o ≡ page_judged s t copies j
-    page-found t long many =
+    pub page_found : (t : TargetState) → t.page_length ≡ P → t.page_count ≡ count → refused_at MissingBlock o ≡ page_judged s t copies j
+    page_found t long many =
         let blocks : m ≡ blocks_of s = counted ∙ (store_parts s (length body) (length marks) store).1 in
         let per : P / n ≡ P / block_of s = ap (λ (k : ℕ). P / k) size in
         let first : j * (P / n) ≡ from = ap (λ (k : ℕ). j * k) per in
@@ -45,5 +45,5 @@ module _ (s : Described) (body : List ℕ) (marks : List Arrival) (P j : ℕ) (a
         λ p c. cond (ltb (j * p) s.length && ltb (s.first_page + j) c) (refused_at MissingBlock (lowest (λ k. needs p s j k && lacks copies k) 0 (blocks_of s))) (Err (refuse NoSuchPage (place_of (s.first_page + j)) Download)) in
         let here : refused_at MissingBlock o ≡ test P count =
         rw (lt-ltb (j * P) s.length inside, lt-ltb (s.first_page + j) count there)
-        (ap (refused_at MissingBlock) (found ∙ (ap₂ (λ (a b : ℕ). missing_from marks a (b - a)) starts ends ∙ missing-needed))) in
+        (ap (refused_at MissingBlock) (found ∙ (ap₂ (λ (a b : ℕ). missing_from marks a (b - a)) starts ends ∙ missing_needed))) in
         here ∙ ap₂ test (sym long) (sym many)

@@ -8,10 +8,10 @@ use Rattle.blocks.specs.Bytes.{Bytes, block}
 use Rattle.blocks.specs.Ciphers.{BlockMap, Lawful}
 use Rattle.modes.specs.Modes.{block_count, joined}
 use Rattle.modes.specs.Calls.{agrees, whole_in, chaining, mode_answer, plain_of, block_answer, buffer_after, front}
-use Rattle.modes.proofs.Judged.{judged-sound}
-use Rattle.modes.proofs.Joined.{count_enough, length-block, joined-long, joined_more}
+use Rattle.modes.proofs.Judged.{judged_sound}
+use Rattle.modes.proofs.Joined.{count_enough, length-block, joined_long, joined_more}
 use Rattle.modes.proofs.Plain.{index_in}
-use Rattle.modes.proofs.Undoing.{plain-long}
+use Rattle.modes.proofs.Undoing.{plain_long}
 use Rattle.description.specs.Limits.{allowed_length}
 use Rattle.sections.specs.declared.kind.CipherKind.{CipherKind}
 use Rattle.sections.specs.declared.kind.CipherKind.TheVariants.{Gost, Kuznyechik}
@@ -20,7 +20,7 @@ use Rattle.sections.specs.Entries.{Described}
 use Rattle.downloads.specs.Frames.{block_of, blocks_of}
 use Rattle.downloads.specs.Pages.{first_in, count_in, filled_up}
 use Rattle.downloads.proofs.Framing.{begins, times_le}
-use Rattle.downloads.proofs.Answered.{block-some}
+use Rattle.downloads.proofs.Answered.{block_some}
 use Rattle.downloads.proofs.Given.{section-judged}
 
 -- one part more at the front of a page
@@ -53,15 +53,15 @@ module _ (c : BlockMap) (s : Described) (body : List ℕ) (law : Lawful c) (size
   judged = section-judged s n (length body) size long agreed whole
 
   some : 0 < n
-  some = subst (λ (k : ℕ). 0 < k) (sym size) (block-some s.cipher)
+  some = subst (λ (k : ℕ). 0 < k) (sym size) (block_some s.cipher)
 
   pub plain-length : (i : ℕ) → i < block_count n (length body) → length (plain i) ≡ min n (length body - n * i)
   plain-length i l =
-      let sound = judged-sound c s.mode s.sync (length body) law judged in
-      plain-long (chaining c s.mode s.sync) (length body) sound body (refl, held) s.mode sound.whole i l ∙ length-block n i body
+      let sound = judged_sound c s.mode s.sync (length body) law judged in
+      plain_long (chaining c s.mode s.sync) (length body) sound body (refl, held) s.mode sound.whole i l ∙ length-block n i body
 
   pub run_length : (from b : ℕ) → from + b ≤ block_count n (length body) → length (joined plain from b) ≡ min (n * b) (length body - n * from)
-  run_length from b h = joined-long n (length body) plain from b (λ i x y. plain-length i (omega arith))
+  run_length from b h = joined_long n (length body) plain from b (λ i x y. plain-length i (omega arith))
 
   -- one block more of a page
   pub one_more : (from b : ℕ) (page was part : List ℕ) → from + b < block_count n (length body) → page ≡ front (joined plain from b) was → n * b + n ≤ length was →
@@ -94,9 +94,9 @@ fill_rest J was page part end fill e l h is =
     ∙ ap (λ (x : List ℕ). J ++ x) (append-nil part ∙ (is ∙ ap (λ (k : ℕ). replicate k fill) size))
 
 -- ---- the blocks of a page
-page-whole : (k : CipherKind) (P : ℕ) → P % 16 ≡ 0 → block_length k * (P / block_length k) ≡ P
-page-whole Gost P h = omega arith
-page-whole Kuznyechik P h = omega arith
+page_whole : (k : CipherKind) (P : ℕ) → P % 16 ≡ 0 → block_length k * (P / block_length k) ≡ P
+page_whole Gost P h = omega arith
+page_whole Kuznyechik P h = omega arith
 
 module _ (s : Described) (P j : ℕ) (allowed : allowed_length P ≡ true) where
   sixteens : P % 16 ≡ 0
@@ -105,64 +105,64 @@ module _ (s : Described) (P j : ℕ) (allowed : allowed_length P ≡ true) where
   pub page_small : P ≤ 4096
   page_small = leb-true P 4096 (and_parts (leb P 4096) (eqb (P % 16) 0) (and_parts (leb 16 P) (leb P 4096 && eqb (P % 16) 0) allowed).1).0
 
-  pub page-some : 16 ≤ P
-  page-some = leb-true 16 P (and_parts (leb 16 P) (leb P 4096 && eqb (P % 16) 0) allowed).0
+  pub page_some : 16 ≤ P
+  page_some = leb-true 16 P (and_parts (leb 16 P) (leb P 4096 && eqb (P % 16) 0) allowed).0
 
-  whole-blocks : block_of s * (P / block_of s) ≡ P
-  whole-blocks = page-whole s.cipher P sixteens
+  whole_blocks : block_of s * (P / block_of s) ≡ P
+  whole_blocks = page_whole s.cipher P sixteens
 
   -- it begins where the pages before it end
   pub page_starts : block_of s * first_in P s j ≡ j * P
   page_starts =
       sym (mul_assoc (block_of s) j (P / block_of s))
-      ∙ (ap (λ (k : ℕ). k * (P / block_of s)) (mul_comm (block_of s) j) ∙ (mul_assoc j (block_of s) (P / block_of s) ∙ ap (λ (k : ℕ). j * k) whole-blocks))
+      ∙ (ap (λ (k : ℕ). k * (P / block_of s)) (mul_comm (block_of s) j) ∙ (mul_assoc j (block_of s) (P / block_of s) ∙ ap (λ (k : ℕ). j * k) whole_blocks))
 
   module _ (inside : j * P < s.length) where
     pub page_low : first_in P s j < blocks_of s
-    page_low = index_in (block_of s) (first_in P s j) s.length (block-some s.cipher) (omega (arith, page_starts))
+    page_low = index_in (block_of s) (first_in P s j) s.length (block_some s.cipher) (omega (arith, page_starts))
 
     pub page_ends : first_in P s j + count_in P s j ≤ blocks_of s
     page_ends = omega (arith, page_low)
 
-    pub page-some_blocks : 0 < count_in P s j
-    page-some_blocks =
-        let one : 0 < P / block_of s = some-blocks s.cipher page-some in omega (arith, page_low)
+    pub page_some_blocks : 0 < count_in P s j
+    page_some_blocks =
+        let one : 0 < P / block_of s = some_blocks s.cipher page_some in omega (arith, page_low)
       where
-        some-blocks : (k : CipherKind) → 16 ≤ P → 0 < P / block_length k
-        some-blocks Gost h = omega arith
-        some-blocks Kuznyechik h = omega arith
+        some_blocks : (k : CipherKind) → 16 ≤ P → 0 < P / block_length k
+        some_blocks Gost h = omega arith
+        some_blocks Kuznyechik h = omega arith
 
-    pub page-fits : block_of s * count_in P s j ≤ P
-    page-fits =
+    pub page_fits : block_of s * count_in P s j ≤ P
+    page_fits =
         let le : count_in P s j ≤ P / block_of s = omega arith in
-        omega (arith, mul-le-mul_left (block_of s) le, whole-blocks)
+        omega (arith, mul-le-mul_left (block_of s) le, whole_blocks)
 
     -- as many bytes of the image as there are in the page
-    pub page-holds : min (block_of s * count_in P s j) (s.length - block_of s * first_in P s j) ≡ min P (s.length - block_of s * first_in P s j)
-    page-holds =
+    pub page_holds : min (block_of s * count_in P s j) (s.length - block_of s * first_in P s j) ≡ min P (s.length - block_of s * first_in P s j)
+    page_holds =
         elim (cases_lt (P / block_of s) (blocks_of s - first_in P s j)) [
-          | inl more ↦ let e : count_in P s j ≡ P / block_of s = omega arith in omega (arith, ap (λ (k : ℕ). block_of s * k) e, whole-blocks)
+          | inl more ↦ let e : count_in P s j ≡ P / block_of s = omega arith in omega (arith, ap (λ (k : ℕ). block_of s * k) e, whole_blocks)
           | inr last ↦
               let e : first_in P s j + count_in P s j ≡ blocks_of s = omega (arith, page_low) in
-              omega (arith, mul-add (block_of s) (first_in P s j) (count_in P s j), ap (λ (k : ℕ). block_of s * k) e, count_enough (block_of s) s.length (block-some s.cipher), page-fits)
+              omega (arith, mul-add (block_of s) (first_in P s j) (count_in P s j), ap (λ (k : ℕ). block_of s * k) e, count_enough (block_of s) s.length (block_some s.cipher), page_fits)
         ]
 
 -- the same as a call counts them, with blocks of n bytes and a body of L bytes
 module _ (s : Described) (n L P j : ℕ) (size : n ≡ block_of s) (long : L ≡ s.length) (small : s.length ≤ 16384) (allowed : allowed_length P ≡ true) (inside : j * P < s.length) where
-  pub first-is : j * (P / n) ≡ first_in P s j
-  first-is = ap (λ (k : ℕ). j * (P / k)) size
+  pub first_is : j * (P / n) ≡ first_in P s j
+  first_is = ap (λ (k : ℕ). j * (P / k)) size
 
   counted : (L + n - 1) / n ≡ blocks_of s
   counted = ap₂ (λ (k l : ℕ). (l + k - 1) / k) size long
 
   pub first_low : j * (P / n) ≤ (L + n - 1) / n
-  first_low = omega (arith, first-is, counted, page_low s P j allowed inside)
+  first_low = omega (arith, first_is, counted, page_low s P j allowed inside)
 
-  pub count-is : min (P / n) ((L + n - 1) / n - j * (P / n)) ≡ count_in P s j
-  count-is = ap₂ (λ (a b : ℕ). min (P / a) b) size (ap₂ (λ (a b : ℕ). a - b) counted first-is)
+  pub count_is : min (P / n) ((L + n - 1) / n - j * (P / n)) ≡ count_in P s j
+  count_is = ap₂ (λ (a b : ℕ). min (P / a) b) size (ap₂ (λ (a b : ℕ). a - b) counted first_is)
 
   pub begin_is : n * (j * (P / n)) ≡ j * P
-  begin_is = ap₂ (λ (a b : ℕ). a * b) size first-is ∙ page_starts s P j allowed
+  begin_is = ap₂ (λ (a b : ℕ). a * b) size first_is ∙ page_starts s P j allowed
 
   pub first_small : j * (P / n) ≤ 16384
-  first_small = omega (arith, begin_is, times_le n (j * (P / n)) (subst (λ (k : ℕ). 0 < k) (sym size) (block-some s.cipher)))
+  first_small = omega (arith, begin_is, times_le n (j * (P / n)) (subst (λ (k : ℕ). 0 < k) (sym size) (block_some s.cipher)))

@@ -16,11 +16,11 @@ use Rattle.targets.specs.State.{TargetState, WellFormed, page_of}
 use Rattle.targets.specs.Calls.{read_out}
 use Rattle.downloads.specs.Verdicts.{flat, image_on, value_of_image, last_page}
 use Rattle.downloads.proofs.Framing.{begins}
-use Rattle.downloads.proofs.Flat.{Long, flat-length, flat-page, all_drop}
+use Rattle.downloads.proofs.Flat.{Long, flat-length, flat_page, all_drop}
 
-all-long : (P : ℕ) (pages : List (List ℕ)) → AllByRecursion (Block P) pages → AllByRecursion (Long P) pages
-all-long P [] h = tt
-all-long P (page ∷ pages) h = (h.0.0, all-long P pages h.1)
+all_long : (P : ℕ) (pages : List (List ℕ)) → AllByRecursion (Block P) pages → AllByRecursion (Long P) pages
+all_long P [] h = tt
+all_long P (page ∷ pages) h = (h.0.0, all_long P pages h.1)
 
 eights : (P k : ℕ) → P % 16 ≡ 0 → P * k % 8 ≡ 0
 eights P k h =
@@ -33,7 +33,7 @@ eights P k h =
 pub record Summed (s : Described) (t : TargetState) (E : List ℕ → List ℕ) (k left : ℕ) (state page : List ℕ) : Type 0 where
   pub state_is : state ≡ absorbed E start (take (t.page_length * k) (image_on s t))
   pub left_is : left ≡ s.length - t.page_length * k
-  pub page-is : (m : ℕ) → suc m ≡ k → page ≡ page_of t (s.first_page + m)
+  pub page_is : (m : ℕ) → suc m ≡ k → page ≡ page_of t (s.first_page + m)
 
 module _ (s : Described) (t : TargetState) (E : List ℕ → List ℕ) (formed : WellFormed t) (there : pages_end t.page_length s ≤ t.page_count) where
   abbrev P : ℕ
@@ -45,39 +45,39 @@ module _ (s : Described) (t : TargetState) (E : List ℕ → List ℕ) (formed :
   abbrev F : List ℕ
   F = flat (drop s.first_page t.pages)
 
-  some-page : 0 < P
-  some-page = let p = and_parts (leb 16 P) (leb P 4096 && eqb (P % 16) 0) formed.sized in omega (arith, leb-true 16 P p.0)
+  some_page : 0 < P
+  some_page = let p = and_parts (leb 16 P) (leb P 4096 && eqb (P % 16) 0) formed.sized in omega (arith, leb-true 16 P p.0)
 
-  whole-page : P % 16 ≡ 0
-  whole-page = eqb-true (P % 16) 0 (and_parts (leb P 4096) (eqb (P % 16) 0) (and_parts (leb 16 P) (leb P 4096 && eqb (P % 16) 0) formed.sized).1).1
+  whole_page : P % 16 ≡ 0
+  whole_page = eqb-true (P % 16) 0 (and_parts (leb P 4096) (eqb (P % 16) 0) (and_parts (leb 16 P) (leb P 4096 && eqb (P % 16) 0) formed.sized).1).1
 
   held : AllByRecursion (Long P) (drop s.first_page t.pages)
-  held = all_drop P s.first_page t.pages (all-long P t.pages formed.held)
+  held = all_drop P s.first_page t.pages (all_long P t.pages formed.held)
 
   pages_there : pages_for P L ≤ length (drop s.first_page t.pages)
   pages_there = simp length-drop (omega (arith, formed.paged, there))
 
-  pub image-length : length (image_on s t) ≡ L
+  pub image_length_lem : length (image_on s t) ≡ L
   unfolding image_on
-  image-length =
+  image_length_lem =
       let l : length F ≡ P * length (drop s.first_page t.pages) = flat-length P (drop s.first_page t.pages) held in
-      length-take-le L F (omega (arith, l, count_enough P L some-page, mul-le-mul_left P pages_there))
+      length-take-le L F (omega (arith, l, count_enough P L some_page, mul-le-mul_left P pages_there))
 
   pub summed_first : (page : List ℕ) → Summed s t E 0 L start page
   unfolding absorbed
   summed_first page = record {
     state_is = sym (ap (λ (n : ℕ). absorbed E start (take n (image_on s t))) (mul-zero P));
     left_is = omega (arith, mul-zero P);
-    page-is = λ m e. absurd (omega arith);
+    page_is = λ m e. absurd (omega arith);
   }
 
   -- one page more of the image
   more : (k count : ℕ) → k < pages_for P L → count ≡ min (L - P * k) P → take (P * k) (image_on s t) ++ take count (page_of t (s.first_page + k)) ≡ take (P * (k + 1)) (image_on s t)
   unfolding image_on
   more k count h e =
-      let low : P * k < L = begins P k L some-page h in
+      let low : P * k < L = begins P k L some_page h in
       let next : P * (k + 1) ≡ P * k + P = mul-add P k 1 ∙ ap (λ (n : ℕ). P * k + n) (mul-one P) in
-      let page : take P (drop (P * k) F) ≡ page_of t (s.first_page + k) = flat-page P k (drop s.first_page t.pages) held (omega (arith, pages_there)) ∙ get_or-drop s.first_page t.pages k [] in
+      let page : take P (drop (P * k) F) ≡ page_of t (s.first_page + k) = flat_page P k (drop s.first_page t.pages) held (omega (arith, pages_there)) ∙ get_or-drop s.first_page t.pages k [] in
       let part : take count (drop (P * k) F) ≡ take count (page_of t (s.first_page + k)) = sym (take-take count P (drop (P * k) F) (omega arith)) ∙ ap (take count) page in
       let joined : take (P * k + count) F ≡ take (P * k) (image_on s t) ++ take count (page_of t (s.first_page + k)) =
       take-add (P * k) count F ∙ ap₂ (λ (x y : List ℕ). x ++ y) (sym (take-take (P * k) L F (omega arith))) part in
@@ -94,33 +94,33 @@ module _ (s : Described) (t : TargetState) (E : List ℕ → List ℕ) (formed :
   pub summed_next : (k left count : ℕ) (state state' page page' : List ℕ) → k < pages_for P L → Summed s t E k left state page → page' ≡ page_of t (s.first_page + k) → count ≡ min left P →
       ((before : List ℕ) → length before % 8 ≡ 0 → state ≡ absorbed E start before → state' ≡ absorbed E start (before ++ take count page')) → Summed s t E (k + 1) (left - count) state' page'
   summed_next k left count state state' page page' h was read counted together =
-      let low : P * k < L = begins P k L some-page h in
+      let low : P * k < L = begins P k L some_page h in
       let next : P * (k + 1) ≡ P * k + P = mul-add P k 1 ∙ ap (λ (n : ℕ). P * k + n) (mul-one P) in
       let before : List ℕ = take (P * k) (image_on s t) in
-      let long : length before ≡ P * k = length-take-le (P * k) (image_on s t) (omega (arith, image-length)) in
+      let long : length before ≡ P * k = length-take-le (P * k) (image_on s t) (omega (arith, image_length_lem)) in
       let bytes : count ≡ min (L - P * k) P = counted ∙ ap (λ (n : ℕ). min n P) was.left_is in
       record {
-        state_is = together before (ap (λ (n : ℕ). n % 8) long ∙ eights P k whole-page) was.state_is ∙ ap (absorbed E start) (ap (λ (x : List ℕ). before ++ take count x) read ∙ more k count h bytes);
+        state_is = together before (ap (λ (n : ℕ). n % 8) long ∙ eights P k whole_page) was.state_is ∙ ap (absorbed E start) (ap (λ (x : List ℕ). before ++ take count x) read ∙ more k count h bytes);
         left_is = omega (arith, was.left_is, bytes, next);
-        page-is = λ m e. let q : m ≡ k = omega arith in read ∙ ap (λ (x : ℕ). page_of t (s.first_page + x)) (sym q);
+        page_is = λ m e. let q : m ≡ k = omega arith in read ∙ ap (λ (x : ℕ). page_of t (s.first_page + x)) (sym q);
       }
 
   -- all of it
   pub summed_all : (k left : ℕ) (state page : List ℕ) → k ≡ pages_for P L → Summed s t E k left state page → state ≡ absorbed E start (image_on s t)
   summed_all k left state page e was =
-      was.state_is ∙ ap (absorbed E start) (take_all (P * k) (image_on s t) (omega (arith, image-length, count_enough P L some-page, ap (λ (n : ℕ). P * n) e)))
+      was.state_is ∙ ap (absorbed E start) (take_all (P * k) (image_on s t) (omega (arith, image_length_lem, count_enough P L some_page, ap (λ (n : ℕ). P * n) e)))
 
-  pub last-read : (k left : ℕ) (state page : List ℕ) → k ≡ pages_for P L → 0 < L → Summed s t E k left state page → page ≡ page_of t (last_page s t)
-  last-read k left state page e some was =
-      let one : 0 < pages_for P L = index_in P 0 L some-page (omega (arith, mul-zero P)) in
+  pub last_read : (k left : ℕ) (state page : List ℕ) → k ≡ pages_for P L → 0 < L → Summed s t E k left state page → page ≡ page_of t (last_page s t)
+  last_read k left state page e some was =
+      let one : 0 < pages_for P L = index_in P 0 L some_page (omega (arith, mul-zero P)) in
       let q : suc (k - 1) ≡ k = omega arith in
       let r : s.first_page + (k - 1) ≡ last_page s t = omega arith in
-      was.page-is (k - 1) q ∙ ap (page_of t) r
+      was.page_is (k - 1) q ∙ ap (page_of t) r
 
 -- the value of what was taken in
-pub value-is : (rows : Rows) (key : List ℕ) (s : Described) (image state : List ℕ) (bits value : ℕ) → state ≡ absorbed (sixteen rows key) start image → bits ≡ s.bits → value ≡ value_of bits state → value ≡ value_of_image rows key s image
+pub value_is : (rows : Rows) (key : List ℕ) (s : Described) (image state : List ℕ) (bits value : ℕ) → state ≡ absorbed (sixteen rows key) start image → bits ≡ s.bits → value ≡ value_of bits state → value ≡ value_of_image rows key s image
 unfolding imitovstavka
-value-is rows key s image state bits value e b v = v ∙ ap₂ (λ (x : ℕ) (y : List ℕ). value_of x y) b e
+value_is rows key s image state bits value e b v = v ∙ ap₂ (λ (x : ℕ) (y : List ℕ). value_of x y) b e
 
 -- a page that is there is read
 pub read_is : (t : TargetState) (p : ℕ) (out : List ℕ) → p < t.page_count → length out ≡ t.page_length → read_out t p out ≡ page_of t p

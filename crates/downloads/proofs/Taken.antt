@@ -9,8 +9,8 @@ use Rattle.downloads.specs.declared.arrivals.Arrival.{Arrival}
 use Rattle.downloads.specs.Marks.{put_at, marked_from}
 use Rattle.downloads.specs.Copies.{copies_in}
 use Rattle.downloads.specs.Frames.{block_of, blocks_of, good_store, good_frame, frame_answer, with_frame, body_after, marks_after}
-use Rattle.downloads.proofs.Framing.{Framed, framed, blocks-within, copies-taken}
-use Rattle.downloads.proofs.Answered.{store_parts, block-some, frame-granted}
+use Rattle.downloads.proofs.Framing.{Framed, framed, blocks_within, copies_taken}
+use Rattle.downloads.proofs.Answered.{store_parts, block_some, frame_granted}
 
 -- a part from a place to the end, with other bytes at its front
 pub put_rest : (a : ℕ) (body frame part : List ℕ) → a + length frame ≤ length body → part ≡ put_at 0 frame (take (length body - a) (drop a body)) →
@@ -26,7 +26,7 @@ put_rest a body frame part h e =
 module _ (s : Described) (body : List ℕ) (marks : List Arrival) (f : ℕ) (frame : List ℕ) (n : ℕ) (size : n ≡ block_of s)
     (granted : Ok tt ≡ frame_answer s (length body) (length marks) (copies_in (block_of s) body marks) f frame) where
   good : (good_store s (length body) (length marks) ≡ true) × (good_frame (block_of s) s.length f (length frame) ≡ true)
-  good = frame-granted s (length body) (length marks) (copies_in (block_of s) body marks) f frame (sym granted)
+  good = frame_granted s (length body) (length marks) (copies_in (block_of s) body marks) f frame (sym granted)
 
   store : (length body ≡ s.length) × (length marks ≡ blocks_of s)
   store = store_parts s (length body) (length marks) good.0
@@ -43,7 +43,7 @@ module _ (s : Described) (body : List ℕ) (marks : List Arrival) (f : ℕ) (fra
   pub room : f + (length frame + n - 1) / n ≤ length marks
   room =
       subst (λ (k : ℕ). f + block_count k (length frame) ≤ length marks) (sym size)
-      (omega (arith, blocks-within (block_of s) (length body) f (length frame) (block-some s.cipher) inside.within inside.some, counted))
+      (omega (arith, blocks_within (block_of s) (length body) f (length frame) (block_some s.cipher) inside.within inside.some, counted))
 
   abbrev said : Result Unit Code
   said = frame_answer s (length body) (length marks) (copies_in (block_of s) body marks) f frame
@@ -54,16 +54,16 @@ module _ (s : Described) (body : List ℕ) (marks : List Arrival) (f : ℕ) (fra
   marks_are : (now : List Arrival) → now ≡ marked_from f ((length frame + n - 1) / n) marks → now ≡ marks_after (block_of s) f frame marks
   marks_are now e = e ∙ ap (λ (k : ℕ). marked_from f (block_count k (length frame)) marks) size
 
-  pub body-taken : (part : List ℕ) → part ≡ put_at 0 frame (take (length body - n * f) (drop (n * f) body)) →
+  pub body_taken : (part : List ℕ) → part ≡ put_at 0 frame (take (length body - n * f) (drop (n * f) body)) →
       put_mid (n * f) (length body - n * f) body part ≡ unless said body (body_after (block_of s) f frame body)
-  body-taken part e = body_is part e ∙ ap (λ (r : Result Unit Code). unless r body (body_after (block_of s) f frame body)) granted
+  body_taken part e = body_is part e ∙ ap (λ (r : Result Unit Code). unless r body (body_after (block_of s) f frame body)) granted
 
-  pub marks-taken : (now : List Arrival) → now ≡ marked_from f ((length frame + n - 1) / n) marks → now ≡ unless said marks (marks_after (block_of s) f frame marks)
-  marks-taken now e = marks_are now e ∙ ap (λ (r : Result Unit Code). unless r marks (marks_after (block_of s) f frame marks)) granted
+  pub marks_taken : (now : List Arrival) → now ≡ marked_from f ((length frame + n - 1) / n) marks → now ≡ unless said marks (marks_after (block_of s) f frame marks)
+  marks_taken now e = marks_are now e ∙ ap (λ (r : Result Unit Code). unless r marks (marks_after (block_of s) f frame marks)) granted
 
   pub taken : (part : List ℕ) (now : List Arrival) → part ≡ put_at 0 frame (take (length body - n * f) (drop (n * f) body)) → now ≡ marked_from f ((length frame + n - 1) / n) marks →
       copies_in (block_of s) (put_mid (n * f) (length body - n * f) body part) now ≡ unless said (copies_in (block_of s) body marks) (with_frame (block_of s) (copies_in (block_of s) body marks) f frame)
   taken part now e m =
       ap₂ (λ (b : List ℕ) (a : List Arrival). copies_in (block_of s) b a) (body_is part e) (marks_are now m)
-      ∙ (copies-taken (block_of s) f body frame marks (block-some s.cipher) counted inside
+      ∙ (copies_taken (block_of s) f body frame marks (block_some s.cipher) counted inside
       ∙ ap (λ r. unless r (copies_in (block_of s) body marks) (with_frame (block_of s) (copies_in (block_of s) body marks) f frame)) granted)

@@ -14,8 +14,8 @@ sized-then : {X Y : Type 0} (right : Bool) (first : Result X Code) (next : X →
 sized-then true first next = refl
 sized-then false first next = refl
 
-pub verify-granted : (s : Described) (t : TargetState) (room : ℕ) → sized (eqb room t.page_length) (verify_judged s t) ≡ Ok tt → (room ≡ t.page_length) × (pages_end t.page_length s ≤ t.page_count)
-verify-granted s t room e =
+pub verify_granted : (s : Described) (t : TargetState) (room : ℕ) → sized (eqb room t.page_length) (verify_judged s t) ≡ Ok tt → (room ≡ t.page_length) × (pages_end t.page_length s ≤ t.page_count)
+verify_granted s t room e =
     let a = ok_sized (eqb room t.page_length) (verify_judged s t) tt e in
     let b = ok_cond (leb (pages_end t.page_length s) t.page_count) (Ok tt) _ tt a.1 in
     (eqb-true room t.page_length a.0, leb-true (pages_end t.page_length s) t.page_count b.0)
@@ -33,8 +33,8 @@ module _ (rows : Rows) (key : List ℕ) (s : Described) (t : TargetState) (out :
       let said = e ∙ sized-then (eqb (length out) t.page_length) (verify_judged s t) (λ _. Ok (good_on rows key s t)) in
       (said, p ∙ ap (λ (q : Result Bool Code). unless q out (page_of t (last_page s t))) said)
 
-  pub verify-refused : (e : Code) → Err e ≡ judged → Verifies (Err e) out
-  verify-refused e h = leaves (Err e) out (ap (λ (r : Result Unit Code). then r (λ _. Ok (good_on rows key s t))) h) refl
+  pub verify_refused : (e : Code) → Err e ≡ judged → Verifies (Err e) out
+  verify_refused e h = leaves (Err e) out (ap (λ (r : Result Unit Code). then r (λ _. Ok (good_on rows key s t))) h) refl
 
-  pub verify-done : (good : Bool) (page : List ℕ) → Ok tt ≡ judged → good ≡ good_on rows key s t → page ≡ page_of t (last_page s t) → Verifies (Ok good) page
-  verify-done good page h g p = leaves (Ok good) page (ap Ok g ∙ ap (λ (r : Result Unit Code). then r (λ _. Ok (good_on rows key s t))) h) p
+  pub verify_done : (good : Bool) (page : List ℕ) → Ok tt ≡ judged → good ≡ good_on rows key s t → page ≡ page_of t (last_page s t) → Verifies (Ok good) page
+  verify_done good page h g p = leaves (Ok good) page (ap Ok g ∙ ap (λ (r : Result Unit Code). then r (λ _. Ok (good_on rows key s t))) h) p

@@ -12,13 +12,13 @@ row_narrow (x ∷ xs) (suc v) h = row_narrow xs v (and_parts (ltb x 16) (narrow_
 pub first_row : (row : List ℕ) (rows : Rows) → narrow_rows (row ∷ rows) ≡ true → narrow_row row ≡ true
 first_row row rows h = (and_parts (narrow_row row) (narrow_rows rows) h).0
 
-pub next-rows : (row : List ℕ) (rows : Rows) → narrow_rows (row ∷ rows) ≡ true → narrow_rows rows ≡ true
-next-rows row rows h = (and_parts (narrow_row row) (narrow_rows rows) h).1
+pub next_rows : (row : List ℕ) (rows : Rows) → narrow_rows (row ∷ rows) ≡ true → narrow_rows rows ≡ true
+next_rows row rows h = (and_parts (narrow_row row) (narrow_rows rows) h).1
 
 pub rows_narrow : (rows : Rows) (k v : ℕ) → narrow_rows rows ≡ true → get_or (get_or rows k []) v 0 < 16
 rows_narrow [] k v h = omega arith
 rows_narrow (row ∷ rows) zero v h = row_narrow row v (first_row row rows h)
-rows_narrow (row ∷ rows) (suc k) v h = rows_narrow rows k v (next-rows row rows h)
+rows_narrow (row ∷ rows) (suc k) v h = rows_narrow rows k v (next_rows row rows h)
 
 -- one number, and one row, on or off
 pub row_on : (row : List ℕ) (i : ℕ) → i < length row → get_or row i 0 ≤ 15 → narrow_row (drop i row) ≡ narrow_row (drop (i + 1) row)
@@ -30,5 +30,5 @@ row_off row i h large = at_drop_more narrow_row row i 0 h ∙ rw (le-ltb (get_or
 pub rows_on : (rows : Rows) (i : ℕ) → i < length rows → narrow_row (get_or rows i []) ≡ true → narrow_rows (drop i rows) ≡ narrow_rows (drop (i + 1) rows)
 rows_on rows i h e = at_drop_more narrow_rows rows i [] h ∙ rw e
 
-pub rows-off : (rows : Rows) (i : ℕ) → i < length rows → narrow_row (get_or rows i []) ≡ false → narrow_rows (drop i rows) ≡ false
-rows-off rows i h e = at_drop_more narrow_rows rows i [] h ∙ rw e
+pub rows_off : (rows : Rows) (i : ℕ) → i < length rows → narrow_row (get_or rows i []) ≡ false → narrow_rows (drop i rows) ≡ false
+rows_off rows i h e = at_drop_more narrow_rows rows i [] h ∙ rw e

@@ -5,7 +5,7 @@ use Rattle.std.proofs.lemmas.List.{drop_more}
 use Rattle.std.proofs.lemmas.Nat.{shr-shr, shl_whole, or_shifted, shr_below, and_mask}
 use Rattle.gost.specs.Tables.{Rows, narrow_rows, substituted}
 use Rattle.gost.specs.Rounds.{rotated}
-use Rattle.gost.proofs.Narrow.{row_narrow, rows_narrow, first_row, next-rows}
+use Rattle.gost.proofs.Narrow.{row_narrow, rows_narrow, first_row, next_rows}
 
 substituted-step : (rows : Rows) (x i : ℕ) → i < length rows →
     substituted (drop i rows) (x / 2 ^ (4 * i))
@@ -52,7 +52,7 @@ pub substituted_lt : (rows : Rows) (x : ℕ) → narrow_rows rows ≡ true → s
 substituted_lt [] x narrow = omega arith
 substituted_lt (row ∷ rows) x narrow =
     let h : get_or row (x % 16) 0 < 16 = row_narrow row (x % 16) (first_row row rows narrow) in
-    let i : substituted rows (x / 16) < 2 ^ (4 * length rows) = substituted_lt rows (x / 16) (next-rows row rows narrow) in
+    let i : substituted rows (x / 16) < 2 ^ (4 * length rows) = substituted_lt rows (x / 16) (next_rows row rows narrow) in
     let e : 4 * suc (length rows) ≡ 4 * length rows + 4 = omega arith in
     let p : 2 ^ (4 * suc (length rows)) ≡ 2 ^ (4 * length rows) * 2 ^ 4 = ap (λ (n : ℕ). 2 ^ n) e ∙ pow-add 2 (4 * length rows) 4 in
     rw p (omega arith)

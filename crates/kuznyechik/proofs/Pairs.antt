@@ -27,13 +27,13 @@ filled_more keys all i p q l h e was =
     ∙ (ap (λ (k : ℕ). take (2 * i) keys ++ pairs k i q) m
     ∙ (ap (λ (r : Pair). take (2 * i) keys ++ pairs (5 - i) i r) e ∙ was)))
 
-pub filled-all : (keys : List (List ℕ)) (i : ℕ) (p : Pair) → length keys ≡ 10 → i ≡ 5 → keys ≡ filled keys i p
-filled-all keys i p l e = rw (e, take_all 10 keys (omega arith)) (sym (append-nil keys))
+pub filled_all : (keys : List (List ℕ)) (i : ℕ) (p : Pair) → length keys ≡ 10 → i ≡ 5 → keys ≡ filled keys i p
+filled_all keys i p l e = rw (e, take_all 10 keys (omega arith)) (sym (append-nil keys))
 
 -- the first pair is the key
-pub filled-first : (keys : List (List ℕ)) (key a1 a0 : List ℕ) → length keys ≡ 10 → a1 ≡ take 16 key → a0 ≡ drop 16 key →
+pub filled_first : (keys : List (List ℕ)) (key a1 a0 : List ℕ) → length keys ≡ 10 → a1 ≡ take 16 key → a0 ≡ drop 16 key →
     filled (set (set keys 0 a1) 1 a0) 1 (a1, a0) ≡ round_keys key
 unfolding round_keys
-filled-first keys key a1 a0 l e f =
+filled_first keys key a1 a0 l e f =
     let first = pair_more keys 0 a1 a0 (omega arith) in
     rw (first, e, f)

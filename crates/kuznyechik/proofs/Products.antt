@@ -4,15 +4,15 @@ use lib.Bits.{bit_xor, xor_assoc, xor_zero_r, xor_lt}
 use Rattle.std.proofs.lemmas.Nat.{mul-le}
 use Rattle.kuznyechik.specs.Field.{times_x, bits_times, product}
 
-pub bit-times_lt : (c a : ℕ) → a < 256 → c % 2 * a < 256
-bit-times_lt c a h = omega (arith, mul-le (c % 2) a 1 255 (omega arith) (omega arith))
+pub bit_times_lt : (c a : ℕ) → a < 256 → c % 2 * a < 256
+bit_times_lt c a h = omega (arith, mul-le (c % 2) a 1 255 (omega arith) (omega arith))
 
 pub times_x_lt : (a : ℕ) → a < 256 → times_x a < 256
 times_x_lt a h = xor_lt 8 (a % 128 * 2) (a / 128 * 195) (omega arith) (omega arith)
 
 bits_times_lt : (n c a : ℕ) → a < 256 → bits_times n c a < 256
 bits_times_lt zero c a h = omega arith
-bits_times_lt (suc n) c a h = xor_lt 8 (c % 2 * a) (bits_times n (c / 2) (times_x a)) (bit-times_lt c a h) (bits_times_lt n (c / 2) (times_x a) (times_x_lt a h))
+bits_times_lt (suc n) c a h = xor_lt 8 (c % 2 * a) (bits_times n (c / 2) (times_x a)) (bit_times_lt c a h) (bits_times_lt n (c / 2) (times_x a) (times_x_lt a h))
 
 pub product_lt : (c a : ℕ) → a < 256 → product c a < 256
 unfolding product

@@ -8,11 +8,11 @@ module _ (keys : List (List ℕ)) (i : ℕ) (a : List ℕ) where
   pub enciphered_more : i + 1 < length keys → enciphered (drop i keys) a ≡ enciphered (drop (i + 1) keys) (LSX (get_or keys i []) a)
   enciphered_more h = rw (drop_more keys i [] (omega arith), drop_more keys (i + 1) [] h)
 
-  pub enciphered-last : i + 1 ≡ length keys → enciphered (drop i keys) a ≡ X (get_or keys i []) a
-  enciphered-last h = rw (drop_more keys i [] (omega arith), drop_all (i + 1) keys (omega arith))
+  pub enciphered_last : i + 1 ≡ length keys → enciphered (drop i keys) a ≡ X (get_or keys i []) a
+  enciphered_last h = rw (drop_more keys i [] (omega arith), drop_all (i + 1) keys (omega arith))
 
   pub deciphered_more : i + 1 < length keys → deciphered (drop i keys) a ≡ XS⁻¹L⁻¹ (get_or keys i []) (deciphered (drop (i + 1) keys) a)
   deciphered_more h = rw (drop_more keys i [] (omega arith), drop_more keys (i + 1) [] h)
 
-  pub deciphered-last : i + 1 ≡ length keys → deciphered (drop i keys) a ≡ X (get_or keys i []) a
-  deciphered-last h = rw (drop_more keys i [] (omega arith), drop_all (i + 1) keys (omega arith))
+  pub deciphered_last : i + 1 ≡ length keys → deciphered (drop i keys) a ≡ X (get_or keys i []) a
+  deciphered_last h = rw (drop_more keys i [] (omega arith), drop_all (i + 1) keys (omega arith))

@@ -14,8 +14,8 @@ pub over_more : (table a now : List ℕ) (i x : ℕ) → i < length a → length
 over_more table a now i x h k e y =
     ap (set now i) y ∙ map_over_more (λ b. get_or table b 0) a now i (get_or now i 0) h e (get_or_default now i 0 (get_or now i 0) (omega arith))
 
-pub over-all : (table a : List ℕ) (i : ℕ) → length a ≤ i → over table i a ≡ map (λ b. get_or table b 0) a
-over-all table a i h = rw (take_all i a h, drop_all i a h) (append-nil (map (λ b. get_or table b 0) a))
+pub over_all : (table a : List ℕ) (i : ℕ) → length a ≤ i → over table i a ≡ map (λ b. get_or table b 0) a
+over_all table a i h = rw (take_all i a h, drop_all i a h) (append-nil (map (λ b. get_or table b 0) a))
 
 -- the sum of the products from place i on
 pub combined_more : (sum i : ℕ) (cs bs : List ℕ) → i < length cs → i < length bs →
@@ -24,8 +24,8 @@ combined_more sum i cs bs h k =
     xor_assoc sum (product (get_or cs i 0) (get_or bs i 0)) (combined (drop (i + 1) cs) (drop (i + 1) bs))
     ∙ ap (bit_xor sum) (sym (ap₂ combined (drop_more cs i 0 h) (drop_more bs i 0 k)))
 
-pub combined-all : (sum i : ℕ) (cs bs : List ℕ) → length cs ≤ i → bit_xor sum (combined (drop i cs) (drop i bs)) ≡ sum
-combined-all sum i cs bs h = rw (drop_all i cs h) (xor_zero_r sum)
+pub combined_all : (sum i : ℕ) (cs bs : List ℕ) → length cs ≤ i → bit_xor sum (combined (drop i cs) (drop i bs)) ≡ sum
+combined_all sum i cs bs h = rw (drop_all i cs h) (xor_zero_r sum)
 
 -- one time less is left
 pub times_more : (f : List ℕ → List ℕ) (n i : ℕ) (a b : List ℕ) → i < n → b ≡ f a → times (n - (i + 1)) f b ≡ times (n - i) f a

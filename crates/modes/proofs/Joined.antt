@@ -19,8 +19,8 @@ count_tight n bytes h =
     omega (arith, div-add-mod' x n, mul_comm n (x / n))
 
 -- whole blocks, and what is left
-pub count-whole : (n bytes : ℕ) → 0 < n → bytes % n ≡ 0 → block_count n bytes ≡ bytes / n
-count-whole n bytes h e =
+pub count_whole : (n bytes : ℕ) → 0 < n → bytes % n ≡ 0 → block_count n bytes ≡ bytes / n
+count_whole n bytes h e =
     let q : ℕ = bytes / n in
     let x : bytes + n - 1 ≡ q * n + (n - 1) = omega (arith, div-add-mod' bytes n) in
     ap (λ (k : ℕ). k / n) x ∙ div-mul-add q n (n - 1) (omega arith)
@@ -39,20 +39,20 @@ count_above n bytes i h l = le-div i (bytes + n - 1) n h (omega (arith, mul_comm
 pub length-block : (n i : ℕ) (text : List ℕ) → length (block n i text) ≡ min n (length text - n * i)
 length-block n i text = simp (length-take, length-drop) refl
 
-pub bytes-block : (n i : ℕ) (text : List ℕ) → Bytes text → Bytes (block n i text)
-bytes-block n i text h = All-take (λ x. x < 256) n (drop (n * i) text) (All-drop (λ x. x < 256) (n * i) text h)
+pub bytes_block : (n i : ℕ) (text : List ℕ) → Bytes text → Bytes (block n i text)
+bytes_block n i text h = All-take (λ x. x < 256) n (drop (n * i) text) (All-drop (λ x. x < 256) (n * i) text h)
 
 -- a block that does not pass the end is whole, and so is any but the last
-pub whole-at : (n : ℕ) (text : List ℕ) (i : ℕ) → n * i + n ≤ length text → length (block n i text) ≡ n
-whole-at n text i l = length-block n i text ∙ omega arith
+pub whole_at : (n : ℕ) (text : List ℕ) (i : ℕ) → n * i + n ≤ length text → length (block n i text) ≡ n
+whole_at n text i l = length-block n i text ∙ omega arith
 
 pub whole_before : (n : ℕ) (text : List ℕ) (i : ℕ) → 0 < n → suc i < block_count n (length text) → length (block n i text) ≡ n
 whole_before n text i h l =
     let le : i + 2 ≤ block_count n (length text) = omega arith in
-    whole-at n text i (omega (arith, count_tight n (length text) h, mul-le-mul_left n le, mul-add n i 2))
+    whole_at n text i (omega (arith, count_tight n (length text) h, mul-le-mul_left n le, mul-add n i 2))
 
-pub whole-all : (n : ℕ) (text : List ℕ) (i : ℕ) → 0 < n → length text % n ≡ 0 → i < block_count n (length text) → length (block n i text) ≡ n
-whole-all n text i h e l =
+pub whole_all : (n : ℕ) (text : List ℕ) (i : ℕ) → 0 < n → length text % n ≡ 0 → i < block_count n (length text) → length (block n i text) ≡ n
+whole_all n text i h e l =
     let q : ℕ = length text / n in
     let c : ℕ = block_count n (length text) in
     let exact : length text ≡ n * q = omega (arith, div-add-mod' (length text) n, mul_comm n q) in
@@ -61,20 +61,20 @@ whole-all n text i h e l =
       | inr large ↦ absurd (omega (arith, exact, count_tight n (length text) h, mul-le-mul_left n large, mul-add n q 1, mul-one n))
     ] in
     let le : i + 1 ≤ q = omega (arith, l, low) in
-    whole-at n text i (omega (arith, exact, mul-le-mul_left n le, mul-add n i 1, mul-one n))
+    whole_at n text i (omega (arith, exact, mul-le-mul_left n le, mul-add n i 1, mul-one n))
 
 -- ---- blocks put together
 -- a run of blocks of a text
-blocks-some : (n c k : ℕ) (text : List ℕ) → joined (λ i. block n i text) k c ≡ take (n * c) (drop (n * k) text)
-blocks-some n zero k text = sym (ap (λ (x : ℕ). take x (drop (n * k) text)) (mul-zero n))
-blocks-some n (suc c) k text =
+blocks_some : (n c k : ℕ) (text : List ℕ) → joined (λ i. block n i text) k c ≡ take (n * c) (drop (n * k) text)
+blocks_some n zero k text = sym (ap (λ (x : ℕ). take x (drop (n * k) text)) (mul-zero n))
+blocks_some n (suc c) k text =
     let e : n * suc c ≡ n + n * c = omega (arith, mul-suc n c) in
     let d : drop (n * suc k) text ≡ drop n (drop (n * k) text) = ap (λ (x : ℕ). drop x text) (mul-suc n k) ∙ sym (drop-drop n (n * k) text) in
-    ap (λ (x : List ℕ). block n k text ++ x) (blocks-some n c (suc k) text ∙ ap (take (n * c)) d)
+    ap (λ (x : List ℕ). block n k text ++ x) (blocks_some n c (suc k) text ∙ ap (take (n * c)) d)
     ∙ sym (ap (λ (x : ℕ). take x (drop (n * k) text)) e ∙ take-add n (n * c) (drop (n * k) text))
 
-pub blocks-all : (n m : ℕ) (text : List ℕ) → length text ≤ n * m → joined (λ i. block n i text) 0 m ≡ text
-blocks-all n m text h = blocks-some n m 0 text ∙ (ap (λ (x : ℕ). take (n * m) (drop x text)) (mul-zero n) ∙ take_all (n * m) text h)
+pub blocks_all : (n m : ℕ) (text : List ℕ) → length text ≤ n * m → joined (λ i. block n i text) 0 m ≡ text
+blocks_all n m text h = blocks_some n m 0 text ∙ (ap (λ (x : ℕ). take (n * m) (drop x text)) (mul-zero n) ∙ take_all (n * m) text h)
 
 pub joined_same : (f g : ℕ → List ℕ) (k m : ℕ) → ((i : ℕ) → k ≤ i → i < k + m → f i ≡ g i) → joined f k m ≡ joined g k m
 joined_same f g k zero h = refl
@@ -93,12 +93,12 @@ joined_more f k (suc m) =
 
 -- blocks as long as those of a text of so many bytes
 module _ (n bytes : ℕ) (f : ℕ → List ℕ) where
-  pub joined-long : (k m : ℕ) → ((i : ℕ) → k ≤ i → i < k + m → length (f i) ≡ min n (bytes - n * i)) → length (joined f k m) ≡ min (n * m) (bytes - n * k)
-  joined-long k zero h = omega (arith, mul-zero n)
-  joined-long k (suc m) h =
+  pub joined_long : (k m : ℕ) → ((i : ℕ) → k ≤ i → i < k + m → length (f i) ≡ min n (bytes - n * i)) → length (joined f k m) ≡ min (n * m) (bytes - n * k)
+  joined_long k zero h = omega (arith, mul-zero n)
+  joined_long k (suc m) h =
       length-append (f k) (joined f (suc k) m)
       ∙ (let a = h k (omega arith) (omega arith) in
-      let b = joined-long (suc k) m (λ i a b. h i (omega arith) (omega arith)) in
+      let b = joined_long (suc k) m (λ i a b. h i (omega arith) (omega arith)) in
       omega (arith, mul-suc n m, mul-suc n k))
 
   -- the block that stands at its place

@@ -5,7 +5,7 @@ use Rattle.std.proofs.lemmas.Bool.{eqb-true}
 use Rattle.refusals.specs.Codes.{Code}
 use Rattle.blocks.specs.Bytes.{Bytes, Block, bytes_of}
 use Rattle.blocks.specs.Ciphers.{BlockMap, Lawful}
-use Rattle.blocks.proofs.Words.{bytes_of-bytes}
+use Rattle.blocks.proofs.Words.{bytes_of_bytes}
 use Rattle.modes.specs.declared.mode.Mode.{Mode}
 use Rattle.modes.specs.declared.mode.Mode.TheVariants.{Codebook, Counter, Feedback}
 use Rattle.modes.specs.declared.mode.Sync.{Sync}
@@ -21,35 +21,35 @@ both false b e f h = absurd (let z : ◌≡◌ {A = ℕ} 0 1 = cc in omega arith
 pub judged-agrees : (n : ℕ) (mode : Mode) (sync : Option Sync) (bytes : ℕ) → mode_answer n mode sync bytes ≡ Ok tt → agrees n mode sync ≡ true
 judged-agrees n mode sync bytes h = (both (agrees n mode sync) (whole_in mode n bytes) _ _ h).0
 
-pub judged-whole : (n : ℕ) (mode : Mode) (sync : Option Sync) (bytes : ℕ) → mode_answer n mode sync bytes ≡ Ok tt → whole_in mode n bytes ≡ true
-judged-whole n mode sync bytes h = (both (agrees n mode sync) (whole_in mode n bytes) _ _ h).1
+pub judged_whole : (n : ℕ) (mode : Mode) (sync : Option Sync) (bytes : ℕ) → mode_answer n mode sync bytes ≡ Ok tt → whole_in mode n bytes ≡ true
+judged_whole n mode sync bytes h = (both (agrees n mode sync) (whole_in mode n bytes) _ _ h).1
 
-pub agrees-eight : (n : ℕ) (mode : Mode) (sync : Option Sync) → agrees n mode sync ≡ true → mode ≡ Counter → n ≡ 8
-agrees-eight n Codebook sync h e = absurd (let z : ◌≡◌ {A = ℕ} 0 1 = cc in omega arith)
-agrees-eight n Counter None h e = absurd (let z : ◌≡◌ {A = ℕ} 0 1 = cc in omega arith)
-agrees-eight n Counter (Some s) h e = eqb-true n 8 h
-agrees-eight n Feedback sync h e = absurd (let z : ◌≡◌ {A = ℕ} 0 1 = cc in omega arith)
+pub agrees_eight : (n : ℕ) (mode : Mode) (sync : Option Sync) → agrees n mode sync ≡ true → mode ≡ Counter → n ≡ 8
+agrees_eight n Codebook sync h e = absurd (let z : ◌≡◌ {A = ℕ} 0 1 = cc in omega arith)
+agrees_eight n Counter None h e = absurd (let z : ◌≡◌ {A = ℕ} 0 1 = cc in omega arith)
+agrees_eight n Counter (Some s) h e = eqb-true n 8 h
+agrees_eight n Feedback sync h e = absurd (let z : ◌≡◌ {A = ℕ} 0 1 = cc in omega arith)
 
 zeros : (n : ℕ) → Bytes (replicate n 0)
 zeros zero = tt
 zeros (suc n) = (omega arith, zeros n)
 
 sync_of_lem : (s : Sync) → Bytes (bytes_of 8 s.first ++ bytes_of 8 s.second)
-sync_of_lem s = All-append (λ x. x < 256) (bytes_of 8 s.first) (bytes_of 8 s.second) (bytes_of-bytes 8 s.first) (bytes_of-bytes 8 s.second)
+sync_of_lem s = All-append (λ x. x < 256) (bytes_of 8 s.first) (bytes_of 8 s.second) (bytes_of_bytes 8 s.first) (bytes_of_bytes 8 s.second)
 
-sync-eight : (sync : Option Sync) → Block 8 (sync_bytes 8 sync)
-sync-eight None = (refl, zeros 8)
-sync-eight (Some s) = (refl, All-take (λ x. x < 256) 8 (bytes_of 8 s.first ++ bytes_of 8 s.second) (sync_of_lem s))
+sync_eight : (sync : Option Sync) → Block 8 (sync_bytes 8 sync)
+sync_eight None = (refl, zeros 8)
+sync_eight (Some s) = (refl, All-take (λ x. x < 256) 8 (bytes_of 8 s.first ++ bytes_of 8 s.second) (sync_of_lem s))
 
-sync-sixteen : (sync : Option Sync) → Block 16 (sync_bytes 16 sync)
-sync-sixteen None = (refl, zeros 16)
-sync-sixteen (Some s) = (refl, All-take (λ x. x < 256) 16 (bytes_of 8 s.first ++ bytes_of 8 s.second) (sync_of_lem s))
+sync_sixteen : (sync : Option Sync) → Block 16 (sync_bytes 16 sync)
+sync_sixteen None = (refl, zeros 16)
+sync_sixteen (Some s) = (refl, All-take (λ x. x < 256) 16 (bytes_of 8 s.first ++ bytes_of 8 s.second) (sync_of_lem s))
 
 -- a sync is a block
-pub sync-block : (n : ℕ) (sync : Option Sync) → (n ≡ 8) ⊎ (n ≡ 16) → Block n (sync_bytes n sync)
-sync-block n sync h =
-    ⊎_elim (λ (e : n ≡ 8). subst (λ (m : ℕ). Block m (sync_bytes m sync)) (sym e) (sync-eight sync)) (λ (e : n ≡ 16). subst (λ (m : ℕ). Block m (sync_bytes m sync)) (sym e) (sync-sixteen sync)) h
+pub sync_block : (n : ℕ) (sync : Option Sync) → (n ≡ 8) ⊎ (n ≡ 16) → Block n (sync_bytes n sync)
+sync_block n sync h =
+    ⊎_elim (λ (e : n ≡ 8). subst (λ (m : ℕ). Block m (sync_bytes m sync)) (sym e) (sync_eight sync)) (λ (e : n ≡ 16). subst (λ (m : ℕ). Block m (sync_bytes m sync)) (sym e) (sync_sixteen sync)) h
 
-pub judged-sound : (c : BlockMap) (mode : Mode) (sync : Option Sync) (bytes : ℕ) → Lawful c → mode_answer c.size mode sync bytes ≡ Ok tt → Sound (chaining c mode sync) bytes
-judged-sound c mode sync bytes law h =
-    sound (chaining c mode sync) bytes law (sync-block c.size sync law.sized) (agrees-eight c.size mode sync (judged-agrees c.size mode sync bytes h)) (judged-whole c.size mode sync bytes h)
+pub judged_sound : (c : BlockMap) (mode : Mode) (sync : Option Sync) (bytes : ℕ) → Lawful c → mode_answer c.size mode sync bytes ≡ Ok tt → Sound (chaining c mode sync) bytes
+judged_sound c mode sync bytes law h =
+    sound (chaining c mode sync) bytes law (sync_block c.size sync law.sized) (agrees_eight c.size mode sync (judged-agrees c.size mode sync bytes h)) (judged_whole c.size mode sync bytes h)

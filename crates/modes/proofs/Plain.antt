@@ -16,8 +16,8 @@ use Rattle.modes.specs.Modes.{gamma, before, plain_by, block_count}
 use Rattle.modes.specs.Steps.{plain_step, Fits, FromSync}
 use Rattle.modes.specs.Calls.{chaining, mode_answer, block_answer, buffer_after, plain_of, front, unless}
 use Rattle.modes.specs.Laws.{Reaches}
-use Rattle.modes.proofs.Joined.{length-block, whole-all}
-use Rattle.modes.proofs.Judged.{judged-agrees, judged-whole, judged-sound, agrees-eight}
+use Rattle.modes.proofs.Joined.{length-block, whole_all}
+use Rattle.modes.proofs.Judged.{judged-agrees, judged_whole, judged_sound, agrees_eight}
 use Rattle.modes.proofs.Reaching.{reaches}
 use Rattle.modes.proofs.Texts.{whole_code}
 
@@ -49,13 +49,13 @@ plain_step_lem Feedback c sync pad blocks y z i from p = ap (λ (x : List ℕ). 
 -- a block of a body that was judged fits its mode
 pub fits-judged : (mode : Mode) (n : ℕ) (sync : Option Sync) (body : List ℕ) (i : ℕ) → 0 < n → mode_answer n mode sync (length body) ≡ Ok tt → n * i < length body → Fits mode n (length (block n i body))
 fits-judged Codebook n sync body i s h l =
-    whole-all n body i s (whole_code Codebook n (length body) (judged-whole n Codebook sync (length body) h) refl) (index_in n i (length body) s l)
-fits-judged Counter n sync body i s h l = (agrees-eight n Counter sync (judged-agrees n Counter sync (length body) h) refl, omega (arith, length-block n i body))
+    whole_all n body i s (whole_code Codebook n (length body) (judged_whole n Codebook sync (length body) h) refl) (index_in n i (length body) s l)
+fits-judged Counter n sync body i s h l = (agrees_eight n Counter sync (judged-agrees n Counter sync (length body) h) refl, omega (arith, length-block n i body))
 fits-judged Feedback n sync body i s h l = omega (arith, length-block n i body)
 
 -- a part as long as a block, from where the block begins
-pub cut-is : (n i k : ℕ) (body : List ℕ) → k ≡ length (block n i body) → take ((n * i + k) - n * i) (drop (n * i) body) ≡ block n i body
-cut-is n i k body e =
+pub cut_is : (n i k : ℕ) (body : List ℕ) → k ≡ length (block n i body) → take ((n * i + k) - n * i) (drop (n * i) body) ≡ block n i body
+cut_is n i k body e =
     let xs = drop (n * i) body in
     let same : (n * i + k) - n * i ≡ k = omega arith in
     let long : k ≡ min n (length xs) = e ∙ length-take n xs in
@@ -73,8 +73,8 @@ module _ (c : BlockMap) (mode : Mode) (sync : Option Sync) (body was : List ℕ)
   leaves : (r : Result ℕ Code) (out : List ℕ) → r ≡ block_answer c.size mode sync body i (length was) → out ≡ unless r was (front (plain_of c mode sync body i) was) → Left r out
   leaves r out e o = (e, o ∙ ap (λ (q : Result ℕ Code). unless q was (front (plain_of c mode sync body i) was)) e)
 
-  pub wrong-buffer : (length was ≡ c.size → ⊥) → Left (Err (refuse WrongBuffer 0 Download)) was
-  wrong-buffer h = leaves _ was (rw (ne_eqb (length was) c.size h)) refl
+  pub wrong_buffer : (length was ≡ c.size → ⊥) → Left (Err (refuse WrongBuffer 0 Download)) was
+  wrong_buffer h = leaves _ was (rw (ne_eqb (length was) c.size h)) refl
 
   pub no_block_lem : length was ≡ c.size → 0 < c.size → mode_answer c.size mode sync (length body) ≡ Ok tt → length body ≤ c.size * i → Left (Err (refuse BadBlock i Download)) was
   no_block_lem h s ok l = leaves _ was (rw (eq-eqb (length was) c.size h, ok, le-ltb i (block_count c.size (length body)) (index_out c.size i (length body) s l))) refl
@@ -90,15 +90,15 @@ module _ (c : BlockMap) (mode : Mode) (sync : Option Sync) (body was : List ℕ)
 pub size_le : (c : BlockMap) → Lawful c → c.size ≤ 16
 size_le c law = ⊎_elim (λ e. omega arith) (λ e. omega arith) law.sized
 
-pub reach-judged : (c : BlockMap) (mode : Mode) (sync : Option Sync) (bytes : ℕ) → Lawful c → mode_answer c.size mode sync bytes ≡ Ok tt → Reaches (chaining c mode sync) bytes
-reach-judged c mode sync bytes law h = reaches (chaining c mode sync) bytes (judged-sound c mode sync bytes law h)
+pub reach_judged : (c : BlockMap) (mode : Mode) (sync : Option Sync) (bytes : ℕ) → Lawful c → mode_answer c.size mode sync bytes ≡ Ok tt → Reaches (chaining c mode sync) bytes
+reach_judged c mode sync bytes law h = reaches (chaining c mode sync) bytes (judged_sound c mode sync bytes law h)
 
 -- a pad as long as a block
 pub pad_long : (n : ℕ) → n ≤ 16 → length {A = ℕ} (take (n - 0) (replicate 16 0)) ≡ n
 pad_long n h = length-take-le (n - 0) (replicate 16 0) (omega arith) ∙ omega arith
 
 -- the plain block at the front of a buffer
-pub front-is : (plain part out : List ℕ) (k : ℕ) → part ≡ plain → length part ≡ length (take (k - 0) out) → k ≤ length out → part ++ drop (k - 0) out ≡ front plain out
-front-is plain part out k e l h =
+pub front_is : (plain part out : List ℕ) (k : ℕ) → part ≡ plain → length part ≡ length (take (k - 0) out) → k ≤ length out → part ++ drop (k - 0) out ≡ front plain out
+front_is plain part out k e l h =
     let long : k - 0 ≡ length plain = sym (sym (ap length e) ∙ (l ∙ length-take-le (k - 0) out (omega arith))) in
     ap₂ (λ (x : List ℕ) (j : ℕ). x ++ drop j out) e long

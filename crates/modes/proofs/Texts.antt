@@ -13,8 +13,8 @@ use Rattle.modes.specs.Steps.{cipher_step, Kept, FromSync}
 use Rattle.modes.specs.Calls.{whole_in}
 use Rattle.modes.specs.Laws.{Sound}
 use Rattle.std.proofs.lemmas.Bool.{eqb-true}
-use Rattle.modes.proofs.Joined.{length-block, joined-long, joined_more, count-whole, count_rest, count_above, whole-at}
-use Rattle.modes.proofs.Undoing.{fed-is, sent-long, some_size}
+use Rattle.modes.proofs.Joined.{length-block, joined_long, joined_more, count_whole, count_rest, count_above, whole_at}
+use Rattle.modes.proofs.Undoing.{fed_is, sent_long, some_size}
 
 -- the pad of feedback holds what is enciphered for block i
 abbrev pub Padded : Mode → BlockMap → List ℕ → List ℕ → ℕ → List ℕ → Type 0
@@ -41,7 +41,7 @@ step_is Codebook c sync image pad y z i from p = refl
 step_is Counter c sync image pad y z i from p =
     ap₂ (λ (u v : ℕ). xored (block c.size i image) (c.enciphered (counters_from u v i))) from.0 from.1
 step_is Feedback c sync image pad y z i from p =
-    ap (λ (x : List ℕ). xored (block c.size i image) (c.enciphered x)) p ∙ sym (fed-is c sync image i)
+    ap (λ (x : List ℕ). xored (block c.size i image) (c.enciphered x)) p ∙ sym (fed_is c sync image i)
 
 -- and keeps the pad for the next
 pub padded_next : (mode : Mode) (c : BlockMap) (sync image pad out : List ℕ) (i : ℕ) → Kept mode c.size out pad → out ≡ cipher_by mode c sync image i → length out ≡ c.size → Padded mode c sync image (i + 1) pad
@@ -62,7 +62,7 @@ module _ (w : Chaining) (image : List ℕ) (bytes : Bytes image) (s : Sound w (l
   front_long : (i : ℕ) → n * i ≤ length image → length (joined (cipher_block w image) 0 i) ≡ n * i
   front_long i h =
       let all = count_above n (length image) i some h in
-      joined-long n (length image) (cipher_block w image) 0 i (λ j a b. sent-long w (length image) s image (refl, bytes) j (omega arith) ∙ length-block n j image)
+      joined_long n (length image) (cipher_block w image) 0 i (λ j a b. sent_long w (length image) s image (refl, bytes) j (omega arith) ∙ length-block n j image)
       ∙ omega (arith, mul-zero n)
 
   module _ (i : ℕ) (xs : List ℕ) (h : n * i ≤ length image) (inv : xs ≡ joined (cipher_block w image) 0 i ++ drop (n * i) image) where
@@ -104,7 +104,7 @@ module _ (w : Chaining) (image : List ℕ) (bytes : Bytes image) (s : Sound w (l
     text_whole q r =
         let exact : length image ≤ n * i = omega (arith, div-add-mod' (length image) n, ap (λ (j : ℕ). n * j) q, mul_comm n (length image / n)) in
         inv ∙ (ap (λ (zs : List ℕ). joined (cipher_block w image) 0 i ++ zs) (drop_all (n * i) image exact)
-        ∙ (append-nil (joined (cipher_block w image) 0 i) ∙ ap (joined (cipher_block w image) 0) (q ∙ sym (count-whole n (length image) some r))))
+        ∙ (append-nil (joined (cipher_block w image) 0 i) ∙ ap (joined (cipher_block w image) 0) (q ∙ sym (count_whole n (length image) some r))))
 
 -- what the loop holds before block i: xs is the text so far
 abbrev pub Held : Chaining → List ℕ → ℕ → ℕ → List ℕ → List ℕ → Type 0
@@ -124,8 +124,8 @@ room n i bytes h =
     let le : i + 1 ≤ bytes / n = omega arith in
     omega (arith, mul-le-mul_left n le, mul-add n i 1, mul-one n, mul_comm n (bytes / n), div-add-mod' bytes n)
 
-pub front-room : (n i bytes : ℕ) → i ≡ bytes / n → n * i ≤ bytes
-front-room n i bytes e = omega (arith, div-add-mod' bytes n, mul_comm n (bytes / n), ap (λ (j : ℕ). n * j) e)
+pub front_room : (n i bytes : ℕ) → i ≡ bytes / n → n * i ≤ bytes
+front_room n i bytes e = omega (arith, div-add-mod' bytes n, mul_comm n (bytes / n), ap (λ (j : ℕ). n * j) e)
 
 module _ (w : Chaining) (image : List ℕ) (bytes : Bytes image) (s : Sound w (length image)) (n : ℕ) (sized : size w ≡ n)
     (i y z : ℕ) (xs pad out : List ℕ) (h : n * i ≤ length image) (from : FromSync w.mode (w.cipher.enciphered w.sync) y z)
@@ -152,7 +152,7 @@ module _ (w : Chaining) (image : List ℕ) (bytes : Bytes image) (s : Sound w (l
       let k : (n * i + n) - n * i ≡ n = omega arith in
       let is : out ≡ cipher_block w image i = stepped (take ((n * i + n) - n * i) (drop (n * i) xs)) (ap (λ (j : ℕ). take j (drop (n * i) xs)) k ∙ ap (take n) rest) o in
       let inside : size w * i + size w ≤ length image = subst (λ (m : ℕ). m * i + m ≤ length image) (sym sized) fits in
-      let whole : length out ≡ size w = ap length is ∙ (sent-long w (length image) s image (refl, bytes) i (last_in i inside) ∙ whole-at (size w) image i inside) in (
+      let whole : length out ≡ size w = ap length is ∙ (sent_long w (length image) s image (refl, bytes) i (last_in i inside) ∙ whole_at (size w) image i inside) in (
         subst (λ (m : ℕ). put_mid (m * i) ((m * i + m) - m * i) xs out ≡ joined (cipher_block w image) 0 (i + 1) ++ drop (m * (i + 1)) image) sized (text_more w image bytes s i xs at there out is),
         padded_next w.mode w.cipher w.sync image next out i (subst (λ (m : ℕ). Kept w.mode m out next) (sym sized) kept) is whole,
       )

@@ -73,14 +73,14 @@ by_mode cipher (Feedback y) bits page n tag offset p l t f s =
 fields_back : (plan : Plan) (n tag offset : ℕ) → PlanFits plan → n < 4294967296 → tag < 4294967296 → fields_of (entry_bytes (section_of plan n tag offset)) ≡ fields_for plan n tag
 fields_back plan n tag offset f l t = by_mode plan.cipher plan.mode plan.bits plan.first_page n tag offset f.page l t f.first f.second
 
-cipher-back : (c : CipherKind) → Some c ≡ cipher_named (cipher_byte c)
-cipher-back Gost = refl
-cipher-back Kuznyechik = refl
+cipher_back : (c : CipherKind) → Some c ≡ cipher_named (cipher_byte c)
+cipher_back Gost = refl
+cipher_back Kuznyechik = refl
 
-mode-back : (m : PlannedMode) → Some (mode_in m) ≡ mode_named (mode_byte (mode_in m))
-mode-back Codebook = refl
-mode-back (Counter s) = refl
-mode-back (Feedback s) = refl
+mode_back : (m : PlannedMode) → Some (mode_in m) ≡ mode_named (mode_byte (mode_in m))
+mode_back Codebook = refl
+mode_back (Counter s) = refl
+mode_back (Feedback s) = refl
 
 same_mode : (cipher : CipherKind) (mode : PlannedMode) (bits page n tag offset : ℕ) →
     described cipher (mode_in mode) (fields_for (plan_of cipher mode bits page) n tag) offset ≡ section_of (plan_of cipher mode bits page) n tag offset
@@ -95,7 +95,7 @@ as_planned : (plan : Plan) (n tag place offset : ℕ) → judged_fields place of
 as_planned plan n tag place offset =
     let fields : Bool = good_tag plan.bits tag && good_sync plan.cipher (mode_in plan.mode) (sync_words plan.mode).first (sync_words plan.mode).second in
     let long : Bool = good_length plan.cipher (mode_in plan.mode) n in
-    as_named place offset (fields_for plan n tag) plan.cipher (mode_in plan.mode) (cipher-back plan.cipher) (mode-back plan.mode)
+    as_named place offset (fields_for plan n tag) plan.cipher (mode_in plan.mode) (cipher_back plan.cipher) (mode_back plan.mode)
     ∙ ap (λ (s : Described). cond fields (cond long (Ok s) (Err (refuse BadLength place File))) (Err (refuse BadField place File)))
     (same_mode plan.cipher plan.mode plan.bits plan.first_page n tag offset)
 
@@ -111,16 +111,16 @@ sized_own : (c : CipherKind) → sized (block_length c) (cipher_named (cipher_by
 sized_own Gost = refl
 sized_own Kuznyechik = refl
 
-long-mode : (cipher : CipherKind) (mode : PlannedMode) (bits page n : ℕ) → length (entry_bytes (section_of (plan_of cipher mode bits page) n 0 0)) ≡ 32
-long-mode cipher Codebook bits page n = refl
-long-mode cipher (Counter s) bits page n = refl
-long-mode cipher (Feedback s) bits page n = refl
+long_mode : (cipher : CipherKind) (mode : PlannedMode) (bits page n : ℕ) → length (entry_bytes (section_of (plan_of cipher mode bits page) n 0 0)) ≡ 32
+long_mode cipher Codebook bits page n = refl
+long_mode cipher (Counter s) bits page n = refl
+long_mode cipher (Feedback s) bits page n = refl
 
 pub sealing_is : (plan : Plan) (n : ℕ) → PlanFits plan → n < 4294967296 → seal_answer (block_length plan.cipher) (entry_bytes (section_of plan n 0 0)) n n ≡ drafted plan n
 unfolding seal_answer
 sealing_is plan n f l =
     rw (
-      eq-eqb (length (entry_bytes (section_of plan n 0 0))) 32 (long-mode plan.cipher plan.mode plan.bits plan.first_page n),
+      eq-eqb (length (entry_bytes (section_of plan n 0 0))) 32 (long_mode plan.cipher plan.mode plan.bits plan.first_page n),
       fields_back plan n 0 0 f l (omega arith),
       eq-eqb n n refl,
       sized_own plan.cipher,
@@ -128,9 +128,9 @@ sealing_is plan n f l =
 
 -- ---- as listing judges it
 
-pub judged-back : (plan : Plan) (n tag : ℕ) → PlanFits plan → n < 4294967296 → tag < 2 ^ plan.bits → good_plan plan ≡ true → good_length plan.cipher (mode_in plan.mode) n ≡ true → (place offset : ℕ) →
+pub judged_back : (plan : Plan) (n tag : ℕ) → PlanFits plan → n < 4294967296 → tag < 2 ^ plan.bits → good_plan plan ≡ true → good_length plan.cipher (mode_in plan.mode) n ≡ true → (place offset : ℕ) →
     judged_fields place offset (fields_of (entry_bytes (section_of plan n tag offset))) ≡ Ok (section_of plan n tag offset)
-judged-back plan n tag f l t g h place offset =
+judged_back plan n tag f l t g h place offset =
     let bits : ℕ = plan.bits in
     let sync : Bool = good_sync plan.cipher (mode_in plan.mode) (sync_words plan.mode).first (sync_words plan.mode).second in
     let a = and_parts (good_tag bits 0) sync g in
@@ -151,12 +151,12 @@ narrow plan g =
     let b = and_parts (leb 1 bits) (leb bits 32 && ltb 0 (2 ^ bits)) a.0 in
     leb-true bits 32 (and_parts (leb bits 32) (ltb 0 (2 ^ bits)) b.1).0
 
-tag-mode : (cipher : CipherKind) (mode : PlannedMode) (bits page n tag : ℕ) →
+tag_mode : (cipher : CipherKind) (mode : PlannedMode) (bits page n tag : ℕ) →
     tagged tag (entry_bytes (section_of (plan_of cipher mode bits page) n 0 0)) ≡ entry_bytes (section_of (plan_of cipher mode bits page) n tag 0)
-tag-mode cipher Codebook bits page n tag = refl
-tag-mode cipher (Counter s) bits page n tag = refl
-tag-mode cipher (Feedback s) bits page n tag = refl
+tag_mode cipher Codebook bits page n tag = refl
+tag_mode cipher (Counter s) bits page n tag = refl
+tag_mode cipher (Feedback s) bits page n tag = refl
 
 -- the tag in its place
 pub tag_put : (plan : Plan) (n tag : ℕ) → tagged tag (entry_bytes (section_of plan n 0 0)) ≡ entry_bytes (section_of plan n tag 0)
-tag_put plan n tag = tag-mode plan.cipher plan.mode plan.bits plan.first_page n tag
+tag_put plan n tag = tag_mode plan.cipher plan.mode plan.bits plan.first_page n tag

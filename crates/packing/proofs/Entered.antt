@@ -23,8 +23,8 @@ by_mode cipher Codebook bits page n = refl
 by_mode cipher (Counter s) bits page n = refl
 by_mode cipher (Feedback s) bits page n = refl
 
-pub entry-is : (plan : Plan) (n c m : ℕ) (sync : Sync) (ps ns fs ss : List ℕ) → c ≡ cipher_byte plan.cipher → m ≡ mode_byte (mode_in plan.mode) → sync ≡ sync_words plan.mode →
+pub entry_is : (plan : Plan) (n c m : ℕ) (sync : Sync) (ps ns fs ss : List ℕ) → c ≡ cipher_byte plan.cipher → m ≡ mode_byte (mode_in plan.mode) → sync ≡ sync_words plan.mode →
     ps ≡ bytes_of 2 plan.first_page → ns ≡ bytes_of 4 n → fs ≡ bytes_of 8 sync.first → ss ≡ bytes_of 8 sync.second →
     laid c m plan.bits ps ns fs ss ≡ entry_bytes (section_of plan n 0 0)
-entry-is plan n c m sync ps ns fs ss a b d e f g h =
+entry_is plan n c m sync ps ns fs ss a b d e f g h =
     rw (a, b, e, f, g, h, d) (by_mode plan.cipher plan.mode plan.bits plan.first_page n)

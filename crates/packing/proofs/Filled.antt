@@ -71,12 +71,12 @@ held_more m ws rest more w place file text file' text' entry body h r f k e b g 
   kept = λ a. h.kept (subst (λ (x : List Work). AllByRecursion (λ w. Kept m w) x) (sym r) (k, a));
 }
 
-pub held-bad : (m : Means) (ws rest more : List Work) (w : Work) (place : ℕ) (file text : List ℕ) (e : Code) → Held m ws rest place file text → rest ≡ w ∷ more →
+pub held_bad : (m : Means) (ws rest more : List Work) (w : Work) (place : ℕ) (file text : List ℕ) (e : Code) → Held m ws rest place file text → rest ≡ w ∷ more →
     fitting place w ≡ Err e → fitting_all 1 ws ≡ Err e
-held-bad m ws rest more w place file text e h r f = h.fits ∙ (ap (λ (x : List Work). fitting_all place x) r ∙ rw f)
+held_bad m ws rest more w place file text e h r f = h.fits ∙ (ap (λ (x : List Work). fitting_all place x) r ∙ rw f)
 
-pub held-last : (m : Means) (ws rest : List Work) (place : ℕ) (file text whole : List ℕ) → Held m ws rest place file text → rest ≡ [] → whole ≡ file ++ text → FilledAs m ws whole
-held-last m ws rest place file text whole h r e =
+pub held_last : (m : Means) (ws rest : List Work) (place : ℕ) (file text whole : List ℕ) → Held m ws rest place file text → rest ≡ [] → whole ≡ file ++ text → FilledAs m ws whole
+held_last m ws rest place file text whole h r e =
     let table : file ≡ 1 ∷ length ws ∷ 0 ∷ 0 ∷ entries_of m ws = sym (append-nil file) ∙ (ap (λ (x : List Work). file ++ entries_of m x) (sym r) ∙ h.table) in
     let body : text ≡ bodies_of m ws = sym (append-nil text) ∙ (ap (λ (x : List Work). text ++ bodies_of m x) (sym r) ∙ h.body) in
     record {
@@ -88,7 +88,7 @@ held-last m ws rest place file text whole h r e =
 -- a section that is not sealed
 pub held_fault : {X : Type 0} (meaning : X → List ℕ) (m : Means) (ws rest more : List Work) (w : Work) (place : ℕ) (file text : List ℕ) (f : Fault) → Held m ws rest place file text → rest ≡ w ∷ more →
     Sealing m place w (Err f) → Filled meaning m ws (Err f)
-held_fault meaning m ws rest more w place file text (Refused e) h r s = held-bad m ws rest more w place file text (code_of e) h r s
+held_fault meaning m ws rest more w place file text (Refused e) h r s = held_bad m ws rest more w place file text (code_of e) h r s
 held_fault meaning m ws rest more w place file text Memory h r s = tt
 
 -- the next section

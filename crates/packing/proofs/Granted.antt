@@ -14,7 +14,7 @@ use Rattle.sections.specs.Entries.{Described, fields_of, judged_fields}
 use Rattle.sections.specs.Files.{pages_end, shares_any, paged, entry_of, next_section, listed_from, good_header, bodies_from, listed}
 use Rattle.sections.specs.Seals.{chaining_of}
 use Rattle.sections.specs.Written.{cipher_byte, mode_byte, sync_field, entry_bytes, body_of}
-use Rattle.sections.proofs.Listed.{next-is, table_is, too_long}
+use Rattle.sections.proofs.Listed.{next_is, table_is, too_long}
 use Rattle.packing.specs.declared.fault.Fault.{Fault}
 use Rattle.packing.specs.declared.fault.Fault.TheVariants.{Refused, Memory}
 use Rattle.packing.specs.Plans.{Work}
@@ -63,13 +63,13 @@ past front rest n h = drop-append-le n front rest (omega arith) ∙ ap (λ (x : 
 fore : (front rest : List ℕ) (n : ℕ) → length front ≡ n → take n (front ++ rest) ≡ front
 fore front rest n h = take-append-le n front rest (omega arith) ∙ take_all n front (omega arith)
 
-section-long : (m : Means) (offset : ℕ) (w : Work) → (sealed_section m offset w).length ≡ length w.image
+section_long : (m : Means) (offset : ℕ) (w : Work) → (sealed_section m offset w).length ≡ length w.image
 unfolding sealed_section
-section-long m offset w = refl
+section_long m offset w = refl
 
-section-at : (m : Means) (offset : ℕ) (w : Work) → (sealed_section m offset w).offset ≡ offset
+section_at_lem : (m : Means) (offset : ℕ) (w : Work) → (sealed_section m offset w).offset ≡ offset
 unfolding sealed_section
-section-at m offset w = refl
+section_at_lem m offset w = refl
 
 chain_any : (m : Means) (offset : ℕ) (w : Work) → chaining_of (map_of m w) (sealed_section m offset w) ≡ chaining_of (map_of m w) (sealed_section m 0 w)
 unfolding sealed_section
@@ -79,20 +79,20 @@ with_sync : (s : Described) (sync : Option Sync) → length (cipher_byte s.ciphe
 with_sync s None = refl
 with_sync s (Some y) = refl
 
-entry-long : (s : Described) → length (entry_bytes s) ≡ 32
-entry-long s = with_sync s s.sync
+entry_long : (s : Described) → length (entry_bytes s) ≡ 32
+entry_long s = with_sync s s.sync
 
-entries-long : (m : Means) (ws : List Work) → length (entries_of m ws) ≡ 32 * length ws
-entries-long m [] = refl
-entries-long m (w ∷ ws) = omega (arith, length-append (entry_bytes (sealed_section m 0 w)) (entries_of m ws), entry-long (sealed_section m 0 w), entries-long m ws)
+entries_long : (m : Means) (ws : List Work) → length (entries_of m ws) ≡ 32 * length ws
+entries_long m [] = refl
+entries_long m (w ∷ ws) = omega (arith, length-append (entry_bytes (sealed_section m 0 w)) (entries_of m ws), entry_long (sealed_section m 0 w), entries_long m ws)
 
 abbrev total : List Work → ℕ
 total [] = 0
 total (w ∷ ws) = length w.image + total ws
 
-bodies-long : (m : Means) (ws : List Work) → AllByRecursion (λ w. Kept m w) ws → length (bodies_of m ws) ≡ total ws
-bodies-long m [] k = refl
-bodies-long m (w ∷ ws) k = omega (arith, length-append (sealed_body m w) (bodies_of m ws), k.0.long, bodies-long m ws k.1)
+bodies_long : (m : Means) (ws : List Work) → AllByRecursion (λ w. Kept m w) ws → length (bodies_of m ws) ≡ total ws
+bodies_long m [] k = refl
+bodies_long m (w ∷ ws) k = omega (arith, length-append (sealed_body m w) (bodies_of m ws), k.0.long, bodies_long m ws k.1)
 
 -- ---- listing looks at the pages alone
 
@@ -101,18 +101,18 @@ step-paged : (fits : Bool) (s : Described) (e : Code) (rest : Described → Resu
 step-paged true s e rest on out h = h
 step-paged false s e rest on out h = refl
 
-paged-from : (page_length page_count : ℕ) (m : Means) (file front tail : List ℕ) (i offset : ℕ) (earlier : List Described) (ws : List Work) →
+paged_from : (page_length page_count : ℕ) (m : Means) (file front tail : List ℕ) (i offset : ℕ) (earlier : List Described) (ws : List Work) →
     file ≡ front ++ (entries_of m ws ++ tail) → length front ≡ 4 + 32 * i → offset + total ws ≡ length file → AllByRecursion (λ w. Kept m w) ws →
     listed_from page_length page_count file (length ws) i offset earlier
     ≡ then (paged_all page_length page_count (i + 1) earlier (parts m offset ws)) (λ u. Ok (earlier ++ map (λ p. p.section) (parts m offset ws)))
-paged-from page_length page_count m file front tail i offset earlier [] e l t k =
+paged_from page_length page_count m file front tail i offset earlier [] e l t k =
     let end : offset ≡ length file = omega arith in
     rw (eq-eqb offset (length file) end, append-nil earlier)
-paged-from page_length page_count m file front tail i offset earlier (w ∷ ws) e l t k =
+paged_from page_length page_count m file front tail i offset earlier (w ∷ ws) e l t k =
     let s = sealed_section m offset w in
     let n : ℕ = length w.image in
     let own : List ℕ = entry_bytes (sealed_section m 0 w) in
-    let wide : length own ≡ 32 = entry-long (sealed_section m 0 w) in
+    let wide : length own ≡ 32 = entry_long (sealed_section m 0 w) in
     let split : file ≡ front ++ (own ++ (entries_of m ws ++ tail)) = e ∙ ap (λ (x : List ℕ). front ++ x) (append_assoc own (entries_of m ws) tail) in
     let at : entry_of i file ≡ entry_bytes s =
     ap (λ (x : List ℕ). take 32 (drop (4 + 32 * i) x)) split
@@ -120,7 +120,7 @@ paged-from page_length page_count m file front tail i offset earlier (w ∷ ws) 
     ∙ (fore own (entries_of m ws ++ tail) 32 wide ∙ sym (entry_any m offset w))) in
     let room : 4 + 32 * i + 32 ≤ length file = omega (arith, ap length split, length-append front (own ++ (entries_of m ws ++ tail)), length-append own (entries_of m ws ++ tail), wide) in
     let next : next_section page_length page_count file i offset earlier ≡ paged page_length page_count (i + 1) earlier s =
-    next-is page_length page_count file i offset earlier room
+    next_is page_length page_count file i offset earlier room
     ∙ (ap (λ (x : List ℕ). then (judged_fields (i + 1) offset (fields_of x)) (paged page_length page_count (i + 1) earlier)) at
     ∙ ap (λ (r : Result Described Code). then r (paged page_length page_count (i + 1) earlier)) (k.0.judged (i + 1) offset)) in
     let fits : Bool = leb (pages_end page_length s) page_count && not (shares_any page_length s earlier) in
@@ -131,18 +131,18 @@ paged-from page_length page_count m file front tail i offset earlier (w ∷ ws) 
     let long : length (front ++ own) ≡ 4 + 32 * suc i = omega (arith, length-append front own, wide) in
     let place : suc i + 1 ≡ suc (i + 1) = omega arith in
     let go : rest s ≡ then (on s) (λ u. Ok (earlier ++ s ∷ map (λ p. p.section) more)) =
-    ap (λ (x : ℕ). listed_from page_length page_count file (length ws) (suc i) (offset + x) (earlier ++ s ∷ [])) (section-long m offset w)
-    ∙ (paged-from page_length page_count m file (front ++ own) tail (suc i) (offset + n) (earlier ++ s ∷ []) ws again long (omega arith) k.1
+    ap (λ (x : ℕ). listed_from page_length page_count file (length ws) (suc i) (offset + x) (earlier ++ s ∷ [])) (section_long m offset w)
+    ∙ (paged_from page_length page_count m file (front ++ own) tail (suc i) (offset + n) (earlier ++ s ∷ []) ws again long (omega arith) k.1
     ∙ (ap (λ (x : ℕ). then (paged_all page_length page_count x (earlier ++ s ∷ []) more) (λ u. Ok ((earlier ++ s ∷ []) ++ map (λ p. p.section) more))) place
     ∙ ap (λ (x : List Described). then (on s) (λ u. Ok x)) (append_assoc earlier (s ∷ []) (map (λ p. p.section) more)))) in
     ap (λ (r : Result Described Code). then r rest) next ∙ step-paged fits s (refuse BadPages (i + 1) File) rest on (earlier ++ s ∷ map (λ p. p.section) more) go
 
-listed-is : (page_length page_count : ℕ) (m : Means) (ws : List Work) → 0 < page_length → 1 ≤ length ws → length ws ≤ 8 → AllByRecursion (λ w. Kept m w) ws →
+listed_is : (page_length page_count : ℕ) (m : Means) (ws : List Work) → 0 < page_length → 1 ≤ length ws → length ws ≤ 8 → AllByRecursion (λ w. Kept m w) ws →
     listed page_length page_count (packed_file m ws)
     ≡ cond (leb (length (packed_file m ws)) 65536)
     (then (paged_all page_length page_count 1 [] (parts m (bodies_from (length ws)) ws)) (λ u. Ok (map (λ p. p.section) (parts m (bodies_from (length ws)) ws))))
     (Err (refuse WrongSize 0 File))
-listed-is page_length page_count m ws p a b k =
+listed_is page_length page_count m ws p a b k =
     let file : List ℕ = packed_file m ws in
     let o : ℕ = bodies_from (length ws) in
     let n : ℕ = length ws in
@@ -150,11 +150,11 @@ listed-is page_length page_count m ws p a b k =
     let big : 4 ≤ length file = omega (arith, ap length is) in
     let header : good_header file ≡ true = ap good_header is ∙ and_from (leb 1 n) (leb n 8 && true) (le-leb 1 n a) (and_from (leb n 8) true (le-leb n 8 b) refl) in
     let count : get_or file 1 0 ≡ n = ap (λ (x : List ℕ). get_or x 1 0) is in
-    let all : o + total ws ≡ length file = omega (arith, ap length is, length-append (entries_of m ws) (bodies_of m ws), entries-long m ws, bodies-long m ws k) in
+    let all : o + total ws ≡ length file = omega (arith, ap length is, length-append (entries_of m ws) (bodies_of m ws), entries_long m ws, bodies_long m ws k) in
     elim (cases_Bool (leb (length file) 65536)) [
       | inl s ↦ rw s (table_is page_length page_count file (λ z. omega arith) big (leb-true (length file) 65536 s) (sym header)
           ∙ (ap (λ (x : ℕ). listed_from page_length page_count file x 0 (bodies_from x) []) count
-          ∙ paged-from page_length page_count m file (1 ∷ n ∷ 0 ∷ 0 ∷ []) (bodies_of m ws) 0 o [] ws is refl all k))
+          ∙ paged_from page_length page_count m file (1 ∷ n ∷ 0 ∷ 0 ∷ []) (bodies_of m ws) 0 o [] ws is refl all k))
       | inr s ↦ rw s (too_long page_length page_count file (λ z. omega arith) big (leb-false (length file) 65536 s))
     ]
 
@@ -177,7 +177,7 @@ as_listed page_length page_count m ws file r p a b f h =
     let ps = parts m (bodies_from (length ws)) ws in
     let fits = f.fits in
     let got : r ≡ cond (leb (length made) 65536) (then (paged_all page_length page_count 1 [] ps) (λ u. Ok (map (λ p. p.section) ps))) (Err (refuse WrongSize 0 File))
-    = h ∙ (ap (λ (x : List ℕ). listed page_length page_count x) f.file_is ∙ listed-is page_length page_count m ws p a b f.kept) in
+    = h ∙ (ap (λ (x : List ℕ). listed page_length page_count x) f.file_is ∙ listed_is page_length page_count m ws p a b f.kept) in
     rw (enough ws a b, fits)
     (sym (ap₂ (λ (x : Result (List Described) Code) (y : List ℕ). granted x y) got f.file_is
     ∙ regrant (leb (length made) 65536) (paged_all page_length page_count 1 [] ps) (refuse WrongSize 0 File) (map (λ p. p.section) ps) made))
@@ -195,7 +195,7 @@ opened m offset file front (w ∷ ws) e l k =
     let body : List ℕ = sealed_body m w in
     let n : ℕ = length w.image in
     let here : body_of s file ≡ body =
-    ap₂ (λ (a b : ℕ). take a (drop b file)) (section-long m offset w) (section-at m offset w)
+    ap₂ (λ (a b : ℕ). take a (drop b file)) (section_long m offset w) (section_at_lem m offset w)
     ∙ (ap (λ (x : List ℕ). take n (drop offset x)) e
     ∙ (ap (λ (x : List ℕ). take n x) (past front (body ++ bodies_of m ws) offset l) ∙ fore body (bodies_of m ws) n k.0.long)) in
     let again : file ≡ (front ++ body) ++ bodies_of m ws = e ∙ sym (append_assoc front body (bodies_of m ws)) in
@@ -210,10 +210,10 @@ holds_for page_length page_count m ws file ss p a b f h =
     let planned = map (λ p. p.section) (parts m o ws) in
     let same : ss ≡ planned
     = same_listed (leb (length (packed_file m ws)) 65536) (paged_all page_length page_count 1 [] (parts m o ws)) (refuse WrongSize 0 File) planned ss
-    (h ∙ (ap (λ (x : List ℕ). listed page_length page_count x) is ∙ listed-is page_length page_count m ws p a b f.kept)) in
+    (h ∙ (ap (λ (x : List ℕ). listed page_length page_count x) is ∙ listed_is page_length page_count m ws p a b f.kept)) in
     record {
       lists = sym h ∙ ap (λ (x : List Described). Ok x) same;
-      opens = opened m o file (1 ∷ length ws ∷ 0 ∷ 0 ∷ entries_of m ws) ws (is ∙ file_parts m ws) (omega (arith, entries-long m ws)) f.kept;
+      opens = opened m o file (1 ∷ length ws ∷ 0 ∷ 0 ∷ entries_of m ws) ws (is ∙ file_parts m ws) (omega (arith, entries_long m ws)) f.kept;
     }
 
 -- what is known of a fault once there is a fault
@@ -221,8 +221,8 @@ pub fault_known : (f : Fault) (known : Type 0) → known → fault_knows f known
 fault_known (Refused e) known k = tt
 fault_known Memory known k = k
 
-pub keys-long : (keys : List ℕ) (k : Spread) → Ok k ≡ keys_answer keys → length keys ≡ 64
-keys-long keys k e = elim (cases_Bool (eqb (length keys) 64)) [
+pub keys_long : (keys : List ℕ) (k : Spread) → Ok k ≡ keys_answer keys → length keys ≡ 64
+keys_long keys k e = elim (cases_Bool (eqb (length keys) 64)) [
   | inl t ↦ eqb-true (length keys) 64 t
   | inr t ↦ absurd (let f = rw t at e in let z : ◌≡◌ {A = ℕ} 0 1 = cc in omega arith)
 ]

@@ -20,7 +20,7 @@ use Rattle.packing.specs.declared.section.Sealed.{Sealed}
 use Rattle.packing.specs.Plans.{Work, mode_in, section_of}
 use Rattle.packing.specs.Sealing.{Means, good_plan, fitting, sealed_section, sealed_body, map_of}
 use Rattle.packing.specs.Steps.{PlanFits, SealedBy, SealedAs}
-use Rattle.packing.proofs.Drafted.{drafted, sealing_is, judged-back, narrow, tag_put}
+use Rattle.packing.proofs.Drafted.{drafted, sealing_is, judged_back, narrow, tag_put}
 use Rattle.packing.proofs.Tags.{tag_below}
 
 -- ---- the part of an image that is judged
@@ -43,8 +43,8 @@ same_judged c m w =
       | inr short ↦ ap (λ (xs : List ℕ). good_length c m (length xs)) (take_all 16385 w.image (omega arith))
     ]
 
-part-whole : (c : CipherKind) (m : Mode) (w : Work) → good_length c m (length (part w)) ≡ true → part w ≡ w.image
-part-whole c m w g =
+part_whole : (c : CipherKind) (m : Mode) (w : Work) → good_length c m (length (part w)) ≡ true → part w ≡ w.image
+part_whole c m w g =
     let n : ℕ = length (part w) in
     let a = and_parts (allowed_image n) (whole_in m (block_length c) n) g in
     let b = leb-true n 16384 (and_parts (leb 9 n) (leb n 16384) a.0).1 in
@@ -65,9 +65,9 @@ by_tests place n s true false = refl
 by_tests place n s false true = refl
 by_tests place n s false false = refl
 
-fit-placed : (place : ℕ) (w : Work) → fitting place w ≡ placed place (done (drafted w.plan (length (part w))))
+fit_placed : (place : ℕ) (w : Work) → fitting place w ≡ placed place (done (drafted w.plan (length (part w))))
 unfolding fitting
-fit-placed place w =
+fit_placed place w =
     let p = w.plan in
     ap (λ (b : Bool). cond (good_plan p) (cond b (Ok tt) (Err (refuse BadLength place File))) (Err (refuse BadField place File))) (sym (same_judged p.cipher (mode_in p.mode) w))
     ∙ by_tests place 0 (section_of p (length (part w)) 0 0) (good_plan p) (good_length p.cipher (mode_in p.mode) (length (part w)))
@@ -75,77 +75,77 @@ fit-placed place w =
 -- ---- what went into sealing
 
 pub record Given (w : Work) (image entry body : List ℕ) : Type 0 where
-  pub image-is : image ≡ take 16385 w.image
-  pub entry-is : entry ≡ entry_bytes (section_of w.plan (length image) 0 0)
+  pub image_is : image ≡ take 16385 w.image
+  pub entry_is : entry ≡ entry_bytes (section_of w.plan (length image) 0 0)
   pub body_is : body ≡ image
   pub fits : PlanFits w.plan
 
-answer-is : (w : Work) (image entry body : List ℕ) → Given w image entry body →
+answer_is : (w : Work) (image entry body : List ℕ) → Given w image entry body →
     seal_answer (block_length w.plan.cipher) entry (length image) (length body) ≡ drafted w.plan (length (part w))
-answer-is w image entry body g =
+answer_is w image entry body g =
     let n : ℕ = length image in
-    let short : n < 4294967296 = rw g.image-is (part_short w) in
-    ap₂ (λ (e b : List ℕ). seal_answer (block_length w.plan.cipher) e n (length b)) g.entry-is g.body_is
-    ∙ (sealing_is w.plan n g.fits short ∙ ap (λ (xs : List ℕ). drafted w.plan (length xs)) g.image-is)
+    let short : n < 4294967296 = rw g.image_is (part_short w) in
+    ap₂ (λ (e b : List ℕ). seal_answer (block_length w.plan.cipher) e n (length b)) g.entry_is g.body_is
+    ∙ (sealing_is w.plan n g.fits short ∙ ap (λ (xs : List ℕ). drafted w.plan (length xs)) g.image_is)
 
 pub refused_as : (place : ℕ) (w : Work) (image entry body : List ℕ) (e f : Refusal) → Given w image entry body →
     Err (code_of e) ≡ done (seal_answer (block_length w.plan.cipher) entry (length image) (length body)) →
     f ≡ record { reason = e.reason; place = place; layer = e.layer } → fitting place w ≡ Err (code_of f)
 refused_as place w image entry body e f g h k =
-    fit-placed place w
-    ∙ (ap (λ (r : Result Described Code). placed place (done r)) (sym (answer-is w image entry body g))
+    fit_placed place w
+    ∙ (ap (λ (r : Result Described Code). placed place (done r)) (sym (answer_is w image entry body g))
     ∙ (ap (λ (r : Result Unit Code). placed place r) (sym h) ∙ ap (λ (x : Refusal). Err (code_of x)) (sym k)))
 
 -- ---- sealed
 
 record Passed (plan : Plan) (n : ℕ) : Type 0 where
-  pub good-plan : good_plan plan ≡ true
+  pub good_plan_lem : good_plan plan ≡ true
   pub fit_length : good_length plan.cipher (mode_in plan.mode) n ≡ true
 
 passed : (plan : Plan) (n : ℕ) → Ok tt ≡ done (drafted plan n) → Passed plan n
 passed plan n h =
     elim (cases_Bool (good_plan plan)) [
       | inl g ↦ elim (cases_Bool (good_length plan.cipher (mode_in plan.mode) n)) [
-        | inl l ↦ record { good-plan = g; fit_length = l }
+        | inl l ↦ record { good_plan_lem = g; fit_length = l }
         | inr l ↦ absurd (let k = rw (g, l) at h in let z : ◌≡◌ {A = ℕ} 0 1 = cc in omega arith)
       ]
       | inr g ↦ absurd (let k = rw g at h in let z : ◌≡◌ {A = ℕ} 0 1 = cc in omega arith)
     ]
 
 drafted_ok : (plan : Plan) (n : ℕ) → Passed plan n → drafted plan n ≡ Ok (section_of plan n 0 0)
-drafted_ok plan n p = rw (p.good-plan, p.fit_length)
+drafted_ok plan n p = rw (p.good_plan_lem, p.fit_length)
 
-pub sealed_as : (m : Means) (place : ℕ) (w : Work) (image entry body entryAfter body_after : List ℕ) (s : Sealed) → Given w image entry body →
-    SealedBy (map_of m w) (block_length w.plan.cipher) m.rows m.keys.tag image entry body (Ok tt) entryAfter body_after → length body_after ≡ length body →
-    s.entry ≡ entryAfter → vec_items s.body ≡ body_after → SealedAs m place w s
+pub sealed_as : (m : Means) (place : ℕ) (w : Work) (image entry body entry_new body_new : List ℕ) (s : Sealed) → Given w image entry body →
+    SealedBy (map_of m w) (block_length w.plan.cipher) m.rows m.keys.tag image entry body (Ok tt) entry_new body_new → length body_new ≡ length body →
+    s.entry ≡ entry_new → vec_items s.body ≡ body_new → SealedAs m place w s
 unfolding fitting sealed_section sealed_body
-sealed_as m place w image entry body entryAfter body_after s g h l e b =
+sealed_as m place w image entry body entry_new body_new s g h l e b =
     let plan = w.plan in
-    let made = answer-is w image entry body g in
+    let made = answer_is w image entry body g in
     let p = passed plan (length (part w)) (h.answer ∙ ap done made) in
-    let whole : part w ≡ w.image = part-whole plan.cipher (mode_in plan.mode) w p.fit_length in
-    let same : image ≡ w.image = g.image-is ∙ whole in
+    let whole : part w ≡ w.image = part_whole plan.cipher (mode_in plan.mode) w p.fit_length in
+    let same : image ≡ w.image = g.image_is ∙ whole in
     let n : ℕ = length w.image in
     let good : good_length plan.cipher (mode_in plan.mode) n ≡ true = sym (same_judged plan.cipher (mode_in plan.mode) w) ∙ p.fit_length in
     let ok : seal_answer (block_length plan.cipher) entry (length image) (length body) ≡ Ok (section_of plan n 0 0)
     = made ∙ (drafted_ok plan (length (part w)) p ∙ ap (λ (xs : List ℕ). Ok (section_of plan (length xs) 0 0)) whole) in
     let tag : ℕ = imitovstavka m.rows m.keys.tag plan.bits w.image in
-    let body-made : body_after ≡ enciphered (chaining_of (map_of m w) (section_of plan n tag 0)) w.image
-    = h.body-after
+    let body-made : body_new ≡ enciphered (chaining_of (map_of m w) (section_of plan n tag 0)) w.image
+    = h.body_sealed
     ∙ (ap (λ (r : Result Described Code). after r (λ t. enciphered (chaining_of (map_of m w) t) image) body) ok
     ∙ ap (λ (xs : List ℕ). enciphered (chaining_of (map_of m w) (section_of plan n tag 0)) xs) same) in
-    let entry-made : entryAfter ≡ entry_bytes (section_of plan n tag 0)
-    = h.entry-after
+    let entry-made : entry_new ≡ entry_bytes (section_of plan n tag 0)
+    = h.entry_sealed
     ∙ (ap (λ (r : Result Described Code). after r (λ t. tagged (imitovstavka m.rows m.keys.tag t.bits image) entry) entry) ok
-    ∙ (ap₂ (λ (xs y : List ℕ). tagged (imitovstavka m.rows m.keys.tag plan.bits xs) y) same (g.entry-is ∙ ap (λ (xs : List ℕ). entry_bytes (section_of plan (length xs) 0 0)) same)
+    ∙ (ap₂ (λ (xs y : List ℕ). tagged (imitovstavka m.rows m.keys.tag plan.bits xs) y) same (g.entry_is ∙ ap (λ (xs : List ℕ). entry_bytes (section_of plan (length xs) 0 0)) same)
     ∙ tag_put plan n tag)) in
     let opened = (h.undo (section_of plan n 0 0) (sym ok)).opens in
     record {
-      fits = rw (p.good-plan, good);
+      fits = rw (p.good_plan_lem, good);
       entry = e ∙ entry-made;
       body = b ∙ body-made;
       kept = record {
-        judged = judged-back plan n tag g.fits (subst (λ (xs : List ℕ). length xs < 4294967296) whole (part_short w)) (tag_below m.rows m.keys.tag w.image plan.bits (narrow plan p.good-plan)) p.good-plan good;
+        judged = judged_back plan n tag g.fits (subst (λ (xs : List ℕ). length xs < 4294967296) whole (part_short w)) (tag_below m.rows m.keys.tag w.image plan.bits (narrow plan p.good_plan_lem)) p.good_plan_lem good;
         long = ap length (sym body-made) ∙ (l ∙ (ap length g.body_is ∙ ap length same));
         opens = rw (← body-made) (opened ∙ same);
       };

@@ -2,7 +2,7 @@
 use Rattle.std.proofs.Common.{◌≡◌, ℕ, zero, suc, ◌+◌, ◌-◌, ◌*◌, ◌/◌, ◌^◌, ◌<◌, ◌≤◌, List, length, sym, ap, ◌∙◌, subst, arith, pow_pos, pow-add}
 use Rattle.std.proofs.lemmas.Nat.{div_below}
 use Rattle.blocks.specs.Bytes.{bytes_of, block, filled, xored}
-use Rattle.blocks.proofs.Words.{word_lt, bytes_of-bytes}
+use Rattle.blocks.proofs.Words.{word_lt, bytes_of_bytes}
 use Rattle.gost.specs.Tables.{Rows}
 use Rattle.gost.specs.Rounds.{rounds, twice}
 use Rattle.gost.specs.Cipher.{registers, block_of, sixteen}
@@ -14,7 +14,7 @@ unfolding registers sixteen block_of
 n1_below rows key text zero = omega arith
 n1_below rows key text (suc m) =
     let x : ℕ = (rounds rows (twice key) (registers (xored (chained (sixteen rows key) start text m) (filled 8 (block 8 m text))))).n1 in
-    word_lt (bytes_of 4 x) (bytes_of-bytes 4 x)
+    word_lt (bytes_of 4 x) (bytes_of_bytes 4 x)
 
 pub tag_below : (rows : Rows) (key text : List ℕ) (l : ℕ) → l ≤ 32 → imitovstavka rows key l text < 2 ^ l
 unfolding imitovstavka absorbed

@@ -25,11 +25,11 @@ pub record PlanFits (plan : Plan) : Type 0 where
   pub second : (sync_words plan.mode).second < 256 ^ 8
 
 -- the calls of sealing with the cipher of a kind
-pub record SealedBy (map : BlockMap) (n : ℕ) (rows : Rows) (key image : List ℕ) (entry body : List ℕ) (r : Result Unit Refusal) (entryAfter body_after : List ℕ) : Type 0 where
+pub record SealedBy (map : BlockMap) (n : ℕ) (rows : Rows) (key image : List ℕ) (entry body : List ℕ) (r : Result Unit Refusal) (entry_new body_new : List ℕ) : Type 0 where
   pub answer : outcome r ≡ done (seal_answer n entry (length image) (length body))
-  pub body-after : body_after ≡ after (seal_answer n entry (length image) (length body)) (λ s. enciphered (chaining_of map s) image) body
-  pub entry-after : entryAfter ≡ after (seal_answer n entry (length image) (length body)) (λ s. tagged (imitovstavka rows key s.bits image) entry) entry
-  pub undo : (s : Described) → Ok s ≡ seal_answer n entry (length image) (length body) → Opens (chaining_of map s) image body_after
+  pub body_sealed : body_new ≡ after (seal_answer n entry (length image) (length body)) (λ s. enciphered (chaining_of map s) image) body
+  pub entry_sealed : entry_new ≡ after (seal_answer n entry (length image) (length body)) (λ s. tagged (imitovstavka rows key s.bits image) entry) entry
+  pub undo : (s : Described) → Ok s ≡ seal_answer n entry (length image) (length body) → Opens (chaining_of map s) image body_new
 
 -- what a sealed section keeps: its entry is judged to be the section, and its body opens to the image
 pub record Kept (m : Means) (w : Work) : Type 0 where

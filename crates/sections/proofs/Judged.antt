@@ -64,8 +64,8 @@ as_named place offset f cipher mode h k = rw (← h, ← k)
 pub bad_fields : (place offset : ℕ) (f : Fields) (cipher : CipherKind) (mode : Mode) → false ≡ good_fields cipher mode f → judged_as cipher mode place offset f ≡ Err (refuse BadField place File)
 bad_fields place offset f cipher mode h = rw (← h)
 
-pub bad-length : (place offset : ℕ) (f : Fields) (cipher : CipherKind) (mode : Mode) → true ≡ good_fields cipher mode f → false ≡ good_length cipher mode f.length → judged_as cipher mode place offset f ≡ Err (refuse BadLength place File)
-bad-length place offset f cipher mode h k = rw (← h, ← k)
+pub bad_length : (place offset : ℕ) (f : Fields) (cipher : CipherKind) (mode : Mode) → true ≡ good_fields cipher mode f → false ≡ good_length cipher mode f.length → judged_as cipher mode place offset f ≡ Err (refuse BadLength place File)
+bad_length place offset f cipher mode h k = rw (← h, ← k)
 
 pub good : (place offset : ℕ) (f : Fields) (cipher : CipherKind) (mode : Mode) → true ≡ good_fields cipher mode f → true ≡ good_length cipher mode f.length → judged_as cipher mode place offset f ≡ Ok (described cipher mode f offset)
 good place offset f cipher mode h k = rw (← h, ← k)

@@ -60,9 +60,9 @@ some_at k [] d h = absurd (omega arith)
 some_at zero (s ∷ ss) d h = refl
 some_at (suc k) (s ∷ ss) d h = some_at k ss d (omega arith)
 
-pub section-is : (count : ℕ) (xs : List Section) (n : ℕ) (d : Section) → 1 ≤ n → n ≤ count → count ≤ length xs →
+pub section_is : (count : ℕ) (xs : List Section) (n : ℕ) (d : Section) → 1 ≤ n → n ≤ count → count ≤ length xs →
     section_at n (map meaning_of (take count xs)) ≡ Some (meaning_of (get_or xs (n - 1) d))
-section-is count xs n d a b h =
+section_is count xs n d a b h =
     let k : ℕ = n - 1 in
     let e : n ≡ suc k = omega arith in
     let l : k < length (map meaning_of (take count xs)) = omega (arith, counted count xs h) in
@@ -78,27 +78,27 @@ pub cut_short : (page_length page_count : ℕ) (file : List ℕ) (i offset : ℕ
 unfolding next_section
 cut_short page_length page_count file i offset earlier h = rw (lt-leb (4 + 32 * i + 32) (length file) h)
 
-pub next-is : (page_length page_count : ℕ) (file : List ℕ) (i offset : ℕ) (earlier : List Described) → 4 + 32 * i + 32 ≤ length file →
+pub next_is : (page_length page_count : ℕ) (file : List ℕ) (i offset : ℕ) (earlier : List Described) → 4 + 32 * i + 32 ≤ length file →
     next_section page_length page_count file i offset earlier ≡ then (judged_fields (i + 1) offset (fields_of (entry_of i file))) (paged page_length page_count (i + 1) earlier)
 unfolding next_section
-next-is page_length page_count file i offset earlier h = rw (le-leb (4 + 32 * i + 32) (length file) h)
+next_is page_length page_count file i offset earlier h = rw (le-leb (4 + 32 * i + 32) (length file) h)
 
 -- the part of the file that holds entry i
-entry-part : (i : ℕ) (file : List ℕ) → take (4 + 32 * i + 32 - (4 + 32 * i)) (drop (4 + 32 * i) file) ≡ entry_of i file
-entry-part i file =
+entry_part : (i : ℕ) (file : List ℕ) → take (4 + 32 * i + 32 - (4 + 32 * i)) (drop (4 + 32 * i) file) ≡ entry_of i file
+entry_part i file =
     let e : 4 + 32 * i + 32 - (4 + 32 * i) ≡ 32 = omega arith in
     ap (λ (n : ℕ). take n (drop (4 + 32 * i) file)) e
 
-pub next-judged : (page_length page_count : ℕ) (file : List ℕ) (i offset : ℕ) (earlier : List Described) (f : Fields) (r : Result Described Code) → 4 + 32 * i + 32 ≤ length file →
+pub next_judged : (page_length page_count : ℕ) (file : List ℕ) (i offset : ℕ) (earlier : List Described) (f : Fields) (r : Result Described Code) → 4 + 32 * i + 32 ≤ length file →
     f ≡ fields_of (take (4 + 32 * i + 32 - (4 + 32 * i)) (drop (4 + 32 * i) file)) → r ≡ judged_fields (i + 1) offset f →
     next_section page_length page_count file i offset earlier ≡ then r (paged page_length page_count (i + 1) earlier)
-next-judged page_length page_count file i offset earlier f r h g k =
-    let e : f ≡ fields_of (entry_of i file) = g ∙ ap fields_of (entry-part i file) in
-    next-is page_length page_count file i offset earlier h
+next_judged page_length page_count file i offset earlier f r h g k =
+    let e : f ≡ fields_of (entry_of i file) = g ∙ ap fields_of (entry_part i file) in
+    next_is page_length page_count file i offset earlier h
     ∙ ap (λ (x : Result Described Code). then x (paged page_length page_count (i + 1) earlier)) (sym (k ∙ ap (λ (x : Fields). judged_fields (i + 1) offset x) e))
 
-pub off-target : (page_length page_count place : ℕ) (earlier : List Described) (s : Described) → page_count < pages_end page_length s → paged page_length page_count place earlier s ≡ Err (refuse BadPages place File)
-off-target page_length page_count place earlier s h = rw (lt-leb (pages_end page_length s) page_count h)
+pub off_target : (page_length page_count place : ℕ) (earlier : List Described) (s : Described) → page_count < pages_end page_length s → paged page_length page_count place earlier s ≡ Err (refuse BadPages place File)
+off_target page_length page_count place earlier s h = rw (lt-leb (pages_end page_length s) page_count h)
 
 pub shared : (page_length page_count place : ℕ) (earlier : List Described) (s : Described) → pages_end page_length s ≤ page_count → true ≡ shares_any page_length s earlier → paged page_length page_count place earlier s ≡ Err (refuse BadPages place File)
 shared page_length page_count place earlier s h k = rw (le-leb (pages_end page_length s) page_count h, ← k)
@@ -123,9 +123,9 @@ one_bad page_length page_count file count i offset earlier e l h =
     let f : count - i ≡ suc (count - (i + 1)) = omega arith in
     rw (f, ← h)
 
-pub at-end : (page_length page_count : ℕ) (file : List ℕ) (count i offset : ℕ) (earlier : List Described) → i ≡ count → offset ≡ length file →
+pub at_end : (page_length page_count : ℕ) (file : List ℕ) (count i offset : ℕ) (earlier : List Described) → i ≡ count → offset ≡ length file →
     listed_from page_length page_count file (count - i) i offset earlier ≡ Ok earlier
-at-end page_length page_count file count i offset earlier l h =
+at_end page_length page_count file count i offset earlier l h =
     let f : count - i ≡ 0 = omega arith in
     rw (f, eq-eqb offset (length file) h)
 

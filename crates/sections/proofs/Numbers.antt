@@ -19,6 +19,6 @@ eight (a ∷ b ∷ []) = omega arith
 eight (a ∷ b ∷ c ∷ []) = omega arith
 eight (a ∷ b ∷ c ∷ d ∷ xs) = omega arith
 
-pub eight-at : (bs : List ℕ) (i : ℕ) → word (take 4 (drop i bs)) + word (take 4 (drop (i + 4) bs)) * 4294967296 ≡ word (take 8 (drop i bs))
-eight-at bs i =
+pub eight_at : (bs : List ℕ) (i : ℕ) → word (take 4 (drop i bs)) + word (take 4 (drop (i + 4) bs)) * 4294967296 ≡ word (take 8 (drop i bs))
+eight_at bs i =
     ap (λ (xs : List ℕ). word (take 4 (drop i bs)) + word (take 4 xs) * 4294967296) (sym (drop-drop 4 i bs)) ∙ eight (drop i bs)

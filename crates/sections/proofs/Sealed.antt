@@ -6,7 +6,7 @@ use Rattle.refusals.specs.declared.Layer.TheVariants.{File}
 use Rattle.refusals.specs.Codes.{Code, refuse}
 use Rattle.blocks.specs.Bytes.{Bytes}
 use Rattle.blocks.specs.Ciphers.{BlockMap}
-use Rattle.blocks.proofs.Spelled.{spelled-all}
+use Rattle.blocks.proofs.Spelled.{spelled_all}
 use Rattle.modes.specs.declared.mode.Mode.{Mode}
 use Rattle.modes.specs.Modes.{enciphered, deciphered}
 use Rattle.modes.specs.Calls.{mode_answer, whole_in, text_after}
@@ -49,34 +49,34 @@ accepted place offset f s h = by_names place offset f s (cipher_named f.cipher) 
 
 -- the buffers are as long as the section, and its mode is accepted
 pub record Ready (n : ℕ) (entry : List ℕ) (image body : ℕ) (s : Described) : Type 0 where
-  pub entry-long : length entry ≡ 32
-  pub body-long : body ≡ image
+  pub entry_long : length entry ≡ 32
+  pub body_long : body ≡ image
   pub agreed : mode_answer n s.mode s.sync image ≡ Ok tt
 
-sized-is : (n : ℕ) (cipher : CipherKind) (o : Option CipherKind) → Some cipher ≡ o → sized n o ≡ true → n ≡ block_length cipher
-sized-is n cipher o e h = eqb-true n (block_length cipher) (rw (← e) at h)
+sized_is : (n : ℕ) (cipher : CipherKind) (o : Option CipherKind) → Some cipher ≡ o → sized n o ≡ true → n ≡ block_length cipher
+sized_is n cipher o e h = eqb-true n (block_length cipher) (rw (← e) at h)
 
-ready-from : (n : ℕ) (entry : List ℕ) (image body : ℕ) (s : Described) → length entry ≡ 32 → good_buffers n (fields_of entry) image body ≡ true →
+ready_from : (n : ℕ) (entry : List ℕ) (image body : ℕ) (s : Described) → length entry ≡ 32 → good_buffers n (fields_of entry) image body ≡ true →
     Accepted 0 0 (untagged (fields_of entry)) s → Ready n entry image body s
-ready-from n entry image body s l g a =
+ready_from n entry image body s l g a =
     let f = fields_of entry in
     let p = and_parts (eqb image f.length) (eqb body f.length && sized n (cipher_named f.cipher)) g in
     let q = and_parts (eqb body f.length) (sized n (cipher_named f.cipher)) p.1 in
     let i : image ≡ f.length = eqb-true image f.length p.0 in
     let b : body ≡ f.length = eqb-true body f.length q.0 in
-    let size : n ≡ block_length a.cipher = sized-is n a.cipher (cipher_named f.cipher) a.named_as q.1 in
+    let size : n ≡ block_length a.cipher = sized_is n a.cipher (cipher_named f.cipher) a.named_as q.1 in
     let whole = (and_parts (allowed_image f.length) (whole_in a.mode (block_length a.cipher) f.length) a.length).1 in
     let d = described a.cipher a.mode (untagged f) 0 in
     let ok : mode_answer (block_length a.cipher) d.mode d.sync f.length ≡ Ok tt
     = mode_ok (block_length a.cipher) d.mode d.sync f.length (kept_from a.cipher a.mode (untagged f) a.fields).agrees_with whole in
-    record { entry-long = l; body-long = b ∙ sym i; agreed = rw (a.same, size, i) ok }
+    record { entry_long = l; body_long = b ∙ sym i; agreed = rw (a.same, size, i) ok }
 
 pub ready : (n : ℕ) (entry : List ℕ) (image body : ℕ) (s : Described) → Ok s ≡ seal_answer n entry image body → Ready n entry image body s
 unfolding seal_answer
 ready n entry image body s h =
     elim (cases_Bool (eqb (length entry) 32)) [
       | inl l ↦ elim (cases_Bool (good_buffers n (fields_of entry) image body)) [
-        | inl g ↦ (let k = rw (l, g) at h in ready-from n entry image body s (eqb-true (length entry) 32 l) g (accepted 0 0 (untagged (fields_of entry)) s k))
+        | inl g ↦ (let k = rw (l, g) at h in ready_from n entry image body s (eqb-true (length entry) 32 l) g (accepted 0 0 (untagged (fields_of entry)) s k))
         | inr g ↦ absurd (let k = rw (l, g) at h in let z : ◌≡◌ {A = ℕ} 0 1 = cc in omega arith)
       ]
       | inr l ↦ absurd (let k = rw l at h in let z : ◌≡◌ {A = ℕ} 0 1 = cc in omega arith)
@@ -84,23 +84,23 @@ ready n entry image body s h =
 
 -- ---- how a sealing is judged, by cases
 
-pub wrong-entry : (n : ℕ) (entry : List ℕ) (image body : ℕ) → (length entry ≡ 32 → ⊥) → seal_answer n entry image body ≡ Err (refuse WrongBuffer 0 File)
+pub wrong_entry : (n : ℕ) (entry : List ℕ) (image body : ℕ) → (length entry ≡ 32 → ⊥) → seal_answer n entry image body ≡ Err (refuse WrongBuffer 0 File)
 unfolding seal_answer
-wrong-entry n entry image body h = rw (ne_eqb (length entry) 32 h)
+wrong_entry n entry image body h = rw (ne_eqb (length entry) 32 h)
 
-pub wrong-buffers : (n : ℕ) (entry : List ℕ) (image body : ℕ) → length entry ≡ 32 → false ≡ good_buffers n (fields_of entry) image body → seal_answer n entry image body ≡ Err (refuse WrongBuffer 0 File)
+pub wrong_buffers : (n : ℕ) (entry : List ℕ) (image body : ℕ) → length entry ≡ 32 → false ≡ good_buffers n (fields_of entry) image body → seal_answer n entry image body ≡ Err (refuse WrongBuffer 0 File)
 unfolding seal_answer
-wrong-buffers n entry image body h g = rw (eq-eqb (length entry) 32 h, ← g)
+wrong_buffers n entry image body h g = rw (eq-eqb (length entry) 32 h, ← g)
 
-pub judged-is : (n : ℕ) (entry : List ℕ) (image body : ℕ) → length entry ≡ 32 → true ≡ good_buffers n (fields_of entry) image body → seal_answer n entry image body ≡ judged_fields 0 0 (untagged (fields_of entry))
+pub judged_is : (n : ℕ) (entry : List ℕ) (image body : ℕ) → length entry ≡ 32 → true ≡ good_buffers n (fields_of entry) image body → seal_answer n entry image body ≡ judged_fields 0 0 (untagged (fields_of entry))
 unfolding seal_answer
-judged-is n entry image body h g = rw (eq-eqb (length entry) 32 h, ← g)
+judged_is n entry image body h g = rw (eq-eqb (length entry) 32 h, ← g)
 
 -- ---- the tag in its place
 
 pub tag_put : (e : List ℕ) (a b c d : ℕ) → length e ≡ 32 → set (set (set (set e 28 a) 29 b) 30 c) 31 d ≡ take 28 e ++ (a ∷ b ∷ c ∷ d ∷ [])
 tag_put e a b c d h =
-    subst (λ (x : List ℕ). set (set (set (set x 28 a) 29 b) 30 c) 31 d ≡ take 28 x ++ (a ∷ b ∷ c ∷ d ∷ [])) (spelled-all 32 e h) refl
+    subst (λ (x : List ℕ). set (set (set (set x 28 a) 29 b) 30 c) 31 d ≡ take 28 x ++ (a ∷ b ∷ c ∷ d ∷ [])) (spelled_all 32 e h) refl
 
 -- ---- what sealing leaves
 

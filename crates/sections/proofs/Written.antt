@@ -18,7 +18,7 @@ use Rattle.sections.specs.Entries.{Described, fields_of, cipher_named, mode_name
 use Rattle.sections.specs.Files.{pages_end, shares, shares_any, paged, then, entry_of, next_section, listed_from, good_header, bodies_from}
 use Rattle.sections.specs.Written.{Part, cipher_byte, mode_byte, sync_field, entry_bytes, entries, bodies, written, SyncFits, Apart, Good, Laid, body_of, ListsWritten}
 use Rattle.sections.proofs.Judged.{as_named, good}
-use Rattle.sections.proofs.Listed.{next-is, unshared, table_is}
+use Rattle.sections.proofs.Listed.{next_is, unshared, table_is}
 
 -- ---- an entry is read back
 
@@ -30,36 +30,36 @@ abbrev second_in : Option Sync → ℕ
 second_in None = 0
 second_in (Some s) = s.second
 
-cipher-back : (c : CipherKind) → Some c ≡ cipher_named (cipher_byte c)
-cipher-back Gost = refl
-cipher-back Kuznyechik = refl
+cipher_back : (c : CipherKind) → Some c ≡ cipher_named (cipher_byte c)
+cipher_back Gost = refl
+cipher_back Kuznyechik = refl
 
-mode-back : (m : Mode) → Some m ≡ mode_named (mode_byte m)
-mode-back Codebook = refl
-mode-back Counter = refl
-mode-back Feedback = refl
+mode_back : (m : Mode) → Some m ≡ mode_named (mode_byte m)
+mode_back Codebook = refl
+mode_back Counter = refl
+mode_back Feedback = refl
 
-sync-back : (n : ℕ) (m : Mode) (sync : Option Sync) → agrees n m sync ≡ true → sync_in m (first_in sync) (second_in sync) ≡ sync
-sync-back n Codebook None h = refl
-sync-back n Codebook (Some s) h = absurd (false≢true h)
-sync-back n Counter None h = absurd (false≢true h)
-sync-back n Counter (Some s) h = refl
-sync-back n Feedback None h = absurd (false≢true h)
-sync-back n Feedback (Some s) h = refl
+sync_back : (n : ℕ) (m : Mode) (sync : Option Sync) → agrees n m sync ≡ true → sync_in m (first_in sync) (second_in sync) ≡ sync
+sync_back n Codebook None h = refl
+sync_back n Codebook (Some s) h = absurd (false≢true h)
+sync_back n Counter None h = absurd (false≢true h)
+sync_back n Counter (Some s) h = refl
+sync_back n Feedback None h = absurd (false≢true h)
+sync_back n Feedback (Some s) h = refl
 
-sync-good : (c : CipherKind) (m : Mode) (sync : Option Sync) → agrees (block_length c) m sync ≡ true → SyncFits c sync → good_sync c m (first_in sync) (second_in sync) ≡ true
-sync-good Gost Codebook None h f = refl
-sync-good Gost Codebook (Some s) h f = absurd (false≢true h)
-sync-good Gost Counter None h f = absurd (false≢true h)
-sync-good Gost Counter (Some s) h f = eq-eqb s.second 0 (f.2 refl)
-sync-good Gost Feedback None h f = absurd (false≢true h)
-sync-good Gost Feedback (Some s) h f = eq-eqb s.second 0 (f.2 refl)
-sync-good Kuznyechik Codebook None h f = refl
-sync-good Kuznyechik Codebook (Some s) h f = absurd (false≢true h)
-sync-good Kuznyechik Counter None h f = absurd (false≢true h)
-sync-good Kuznyechik Counter (Some s) h f = absurd (false≢true h)
-sync-good Kuznyechik Feedback None h f = absurd (false≢true h)
-sync-good Kuznyechik Feedback (Some s) h f = refl
+sync_good : (c : CipherKind) (m : Mode) (sync : Option Sync) → agrees (block_length c) m sync ≡ true → SyncFits c sync → good_sync c m (first_in sync) (second_in sync) ≡ true
+sync_good Gost Codebook None h f = refl
+sync_good Gost Codebook (Some s) h f = absurd (false≢true h)
+sync_good Gost Counter None h f = absurd (false≢true h)
+sync_good Gost Counter (Some s) h f = eq-eqb s.second 0 (f.2 refl)
+sync_good Gost Feedback None h f = absurd (false≢true h)
+sync_good Gost Feedback (Some s) h f = eq-eqb s.second 0 (f.2 refl)
+sync_good Kuznyechik Codebook None h f = refl
+sync_good Kuznyechik Codebook (Some s) h f = absurd (false≢true h)
+sync_good Kuznyechik Counter None h f = absurd (false≢true h)
+sync_good Kuznyechik Counter (Some s) h f = absurd (false≢true h)
+sync_good Kuznyechik Feedback None h f = absurd (false≢true h)
+sync_good Kuznyechik Feedback (Some s) h f = refl
 
 -- the entry and the fields with another sync
 abbrev bytes_with : Described → Option Sync → List ℕ
@@ -96,9 +96,9 @@ fields_back s (Some y) p l t f =
     five (fields_by s) (word (bytes_of 2 s.first_page)) (word (bytes_of 4 s.length)) (word (bytes_of 8 y.first)) (word (bytes_of 8 y.second)) (word (bytes_of 4 s.tag)) s.first_page s.length y.first y.second s.tag
     (word_bytes 2 s.first_page p) (word_bytes 4 s.length l) (word_bytes 8 y.first f.0) (word_bytes 8 y.second f.1) (word_bytes 4 s.tag t)
 
-judged-back : (page_length page_count offset : ℕ) (earlier : List Described) (p : Part) (place : ℕ) → Good page_length page_count offset earlier p →
+judged_back : (page_length page_count offset : ℕ) (earlier : List Described) (p : Part) (place : ℕ) → Good page_length page_count offset earlier p →
     judged_fields place p.section.offset (fields_of (entry_bytes p.section)) ≡ Ok p.section
-judged-back page_length page_count offset earlier p place g =
+judged_back page_length page_count offset earlier p place g =
     let s = p.section in
     let f = fields_in s s.sync in
     let wide = pow_mono {i = s.bits} {j = 32} g.bits.1 in
@@ -108,14 +108,14 @@ judged-back page_length page_count offset earlier p place g =
     and_from (leb 1 s.bits) (leb s.bits 32 && ltb s.tag (2 ^ s.bits)) (le-leb 1 s.bits g.bits.0)
     (and_from (leb s.bits 32) (ltb s.tag (2 ^ s.bits)) (le-leb s.bits 32 g.bits.1) (lt-ltb s.tag (2 ^ s.bits) g.tag)) in
     let fields : good_fields s.cipher s.mode f ≡ true =
-    and_from (good_tag s.bits s.tag) (good_sync s.cipher s.mode (first_in s.sync) (second_in s.sync)) tag (sync-good s.cipher s.mode s.sync g.agreed g.sync) in
+    and_from (good_tag s.bits s.tag) (good_sync s.cipher s.mode (first_in s.sync) (second_in s.sync)) tag (sync_good s.cipher s.mode s.sync g.agreed g.sync) in
     let long : good_length s.cipher s.mode s.length ≡ true =
     and_from (allowed_image s.length) (whole_in s.mode (block_length s.cipher) s.length)
     (and_from (leb 9 s.length) (leb s.length 16384) (le-leb 9 s.length g.allowed.0) (le-leb s.length 16384 g.allowed.1)) g.whole in
     let by : Option Sync → Described = λ y. record { cipher = s.cipher; mode = s.mode; bits = s.bits; first_page = s.first_page; length = s.length; sync = y; tag = s.tag; offset = s.offset } in
-    let same : described s.cipher s.mode f s.offset ≡ s = ap by (sync-back (block_length s.cipher) s.mode s.sync g.agreed) in
+    let same : described s.cipher s.mode f s.offset ≡ s = ap by (sync_back (block_length s.cipher) s.mode s.sync g.agreed) in
     ap (λ (x : Fields). judged_fields place s.offset x) (fields_back s s.sync g.page short low g.sync)
-    ∙ (as_named place s.offset f s.cipher s.mode (cipher-back s.cipher) (mode-back s.mode)
+    ∙ (as_named place s.offset f s.cipher s.mode (cipher_back s.cipher) (mode_back s.mode)
     ∙ (good place s.offset f s.cipher s.mode (sym fields) (sym long) ∙ ap (λ (d : Described). Ok d) same))
 
 -- ---- its pages
@@ -143,10 +143,10 @@ past front rest n h = drop-append-le n front rest (omega arith) ∙ ap (λ (x : 
 fore : (front rest : List ℕ) (n : ℕ) → length front ≡ n → take n (front ++ rest) ≡ front
 fore front rest n h = take-append-le n front rest (omega arith) ∙ take_all n front (omega arith)
 
-next-written : (page_length page_count : ℕ) (file front tail : List ℕ) (i offset : ℕ) (earlier : List Described) (p : Part) →
+next_written : (page_length page_count : ℕ) (file front tail : List ℕ) (i offset : ℕ) (earlier : List Described) (p : Part) →
     file ≡ front ++ (entry_bytes p.section ++ tail) → length front ≡ 4 + 32 * i → Good page_length page_count offset earlier p →
     next_section page_length page_count file i offset earlier ≡ Ok p.section
-next-written page_length page_count file front tail i offset earlier p e l g =
+next_written page_length page_count file front tail i offset earlier p e l g =
     let s = p.section in
     let entry : entry_of i file ≡ entry_bytes s =
     ap (λ (x : List ℕ). take 32 (drop (4 + 32 * i) x)) e
@@ -154,8 +154,8 @@ next-written page_length page_count file front tail i offset earlier p e l g =
     let room : 4 + 32 * i + 32 ≤ length file = omega (arith, ap length e, length-append front (entry_bytes s ++ tail), length-append (entry_bytes s) tail, entry_length s) in
     let judged : judged_fields (i + 1) offset (fields_of (entry_of i file)) ≡ Ok s =
     ap (λ (x : List ℕ). judged_fields (i + 1) offset (fields_of x)) entry
-    ∙ (ap (λ (o : ℕ). judged_fields (i + 1) o (fields_of (entry_bytes s))) (sym g.place) ∙ judged-back page_length page_count offset earlier p (i + 1) g) in
-    next-is page_length page_count file i offset earlier room
+    ∙ (ap (λ (o : ℕ). judged_fields (i + 1) o (fields_of (entry_bytes s))) (sym g.place) ∙ judged_back page_length page_count offset earlier p (i + 1) g) in
+    next_is page_length page_count file i offset earlier room
     ∙ (ap (λ (r : Result Described Code). then r (paged page_length page_count (i + 1) earlier)) judged
     ∙ unshared page_length page_count (i + 1) earlier s g.target (sym (all_apart page_length s earlier g.apart)))
 
@@ -172,7 +172,7 @@ listed_rest page_length page_count file front tail i offset earlier [] e l t h =
 listed_rest page_length page_count file front tail i offset earlier (p ∷ ps) e l t h =
     let s = p.section in
     let split : file ≡ front ++ (entry_bytes s ++ (entries ps ++ tail)) = e ∙ ap (λ (x : List ℕ). front ++ x) (append_assoc (entry_bytes s) (entries ps) tail) in
-    let next = next-written page_length page_count file front (entries ps ++ tail) i offset earlier p split l h.0 in
+    let next = next_written page_length page_count file front (entries ps ++ tail) i offset earlier p split l h.0 in
     let again : file ≡ (front ++ entry_bytes s) ++ (entries ps ++ tail) = split ∙ sym (append_assoc front (entry_bytes s) (entries ps ++ tail)) in
     let long : length (front ++ entry_bytes s) ≡ 4 + 32 * suc i = omega (arith, length-append front (entry_bytes s), entry_length s) in
     let rest = listed_rest page_length page_count file (front ++ entry_bytes s) tail (suc i) (offset + s.length) (earlier ++ s ∷ []) ps again long (omega arith) h.1 in
@@ -205,8 +205,8 @@ found page_length page_count offset earlier file front (p ∷ ps) e l h =
     let long : length (front ++ p.body) ≡ offset + p.section.length = omega (arith, length-append front p.body, g.body) in
     (here, found page_length page_count (offset + p.section.length) (earlier ++ p.section ∷ []) file (front ++ p.body) ps again long h.1)
 
-pub lists-written : ListsWritten
-lists-written page_length page_count ps long some few small laid =
+pub lists_written : ListsWritten
+lists_written page_length page_count ps long some few small laid =
     let file = written ps in
     let n : ℕ = length ps in
     let all : length (entries ps ++ bodies ps) ≡ 32 * n + total ps = omega (arith, length-append (entries ps) (bodies ps), entries-length ps, bodies-length page_length page_count (bodies_from n) [] ps laid) in

@@ -23,9 +23,9 @@ taken_more text i =
     let e : 8 * i + 8 ≡ 8 * (i + 1) = omega arith in
     sym (take-add (8 * i) 8 text) ∙ ap (λ (n : ℕ). take n text) e
 
-pub block-is : (image : List ℕ) (fill more i : ℕ) (bytes : List ℕ) → length bytes ≡ 8 → 8 * i + 8 ≤ length image + more →
+pub block_is : (image : List ℕ) (fill more i : ℕ) (bytes : List ℕ) → length bytes ≡ 8 → 8 * i + 8 ≤ length image + more →
     ((k : ℕ) → k < 8 → get_or bytes k 0 ≡ byte_at image fill (8 * i + k)) → bytes ≡ block 8 i (image ++ replicate more fill)
-block-is image fill more i bytes l h at =
+block_is image fill more i bytes l h at =
     let text = image ++ replicate more fill in
     let long : length text ≡ length image + more = filled-length image fill more in
     let whole : length (block 8 i text) ≡ 8 = simp (length-take, length-drop) (omega (arith, long)) in

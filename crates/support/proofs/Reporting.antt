@@ -10,9 +10,9 @@ use Rattle.support.specs.Images.{allowed_image, pages_for, paged}
 use Rattle.support.specs.Reports.{Reported, report, key_answer, pages_answer, support_answer}
 
 -- pages that were counted, and of which length of image
-pub pages-counted : (page_length page_count n pages : ℕ) → Ok pages ≡ pages_answer page_length page_count n →
+pub pages_counted : (page_length page_count n pages : ℕ) → Ok pages ≡ pages_answer page_length page_count n →
     (pages ≡ pages_for page_length n) × (9 ≤ n)
-pages-counted page_length page_count n pages e =
+pages_counted page_length page_count n pages e =
     elim (cases_Bool (allowed_image n)) [
       | inl yes' ↦ elim (cases_Bool (leb (pages_for page_length n) page_count)) [
         | inl fit ↦ (let f = rw (yes', fit) at e in (cc), leb-true 9 n (and_parts (leb 9 n) (leb n 16384) yes').0)
@@ -22,8 +22,8 @@ pages-counted page_length page_count n pages e =
     ]
 
 -- the pages hold the image
-pub image-fits : (page_length n : ℕ) → 0 < page_length → n ≤ page_length * pages_for page_length n
-image-fits page_length n h =
+pub image_fits : (page_length n : ℕ) → 0 < page_length → n ≤ page_length * pages_for page_length n
+image_fits page_length n h =
     let x : ℕ = n + page_length - 1 in
     omega (arith, div-add-mod' x page_length, mod_below x page_length h, mul_comm page_length (x / page_length))
 
@@ -41,7 +41,7 @@ pub reported : (text keys image key : List ℕ) (d : Described) (pages bits valu
     wrong ≡ imitovstavka d.rows key bits (paged d.page_length d.fill image) →
     ◌≡◌ {A = Result Reported Code} (Ok (record { target = d; image_length = length image; image_pages = pages; value = value; wrong = wrong })) (support_answer text keys image)
 reported text keys image key d pages bits value wrong a k p b v w =
-    let count = pages-counted d.page_length d.page_count (length image) pages p in
+    let count = pages_counted d.page_length d.page_count (length image) pages p in
     let long : 9 ≤ length image = count.1 in
     let thirty : bits ≡ 32 = cc b in
     let right : value ≡ imitovstavka d.rows key bits image = let f = rw (le-leb 9 (length image) long) at v in (cc) in

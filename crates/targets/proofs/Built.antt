@@ -10,14 +10,14 @@ use Rattle.targets.specs.Paged.{length_of, count_of, laid_out, built}
 use Rattle.targets.proofs.Divided.{counted}
 use Rattle.targets.proofs.Kept.{always_ready}
 
-pub length-is : (n : ℕ) → 16 ≤ n → n % 16 ≡ 0 → length_of (n / 16 - 1) ≡ n
-length-is n low whole = omega arith
+pub length_is : (n : ℕ) → 16 ≤ n → n % 16 ≡ 0 → length_of (n / 16 - 1) ≡ n
+length_is n low whole = omega arith
 
-pub built-is : (rewritable : Bool) (memory : List ℕ) (n count fill : ℕ) (locked : List Bool) →
+pub built_is : (rewritable : Bool) (memory : List ℕ) (n count fill : ℕ) (locked : List Bool) →
     16 ≤ n → n ≤ 4096 → n % 16 ≡ 0 → 1 ≤ count → count ≤ 1024 → length memory ≡ n * count →
     Ok (laid_out rewritable (length_of (n / 16 - 1)) (count_of (length_of (n / 16 - 1)) memory) fill memory locked (replicate 1024 rewritable)) ≡ built rewritable memory n count fill locked
-built-is rewritable memory n count fill locked low high whole some few e =
-    let size = length-is n low whole in
+built_is rewritable memory n count fill locked low high whole some few e =
+    let size = length_is n low whole in
     let pages : count_of (length_of (n / 16 - 1)) memory ≡ count =
     ap (λ (k : ℕ). count_of k memory) size ∙ counted n count memory (omega arith) few e in
     let made : ℕ → ℕ → Result TargetState Code = λ k m. Ok (laid_out rewritable k m fill memory locked (replicate 1024 rewritable)) in
@@ -25,7 +25,7 @@ built-is rewritable memory n count fill locked low high whole some few e =
     ∙ sym (cond-true (allowed_length n && (allowed_count count && eqb (length memory) (n * count))) _ _
     (and_from _ _ (and_from _ _ (le-leb 16 n low) (and_from _ _ (le-leb n 4096 high) (eq-eqb (n % 16) 0 whole))) (and_from _ _ (and_from _ _ (le-leb 1 count some) (le-leb count 1024 few)) (eq-eqb (length memory) (n * count) e))))
 
-pub built-ready : (rewritable : Bool) (n count fill : ℕ) (memory : List ℕ) (locked : List Bool) → count ≤ 1024 → rewritable ≡ true →
+pub built_ready : (rewritable : Bool) (n count fill : ℕ) (memory : List ℕ) (locked : List Bool) → count ≤ 1024 → rewritable ≡ true →
     AlwaysReady (laid_out rewritable n count fill memory locked (replicate 1024 rewritable))
-built-ready rewritable n count fill memory locked few e =
+built_ready rewritable n count fill memory locked few e =
     always_ready (laid_out rewritable n count fill memory locked (replicate 1024 rewritable)) e (ap (λ (b : Bool). take count (replicate 1024 b)) e ∙ take-replicate count 1024 true few)

@@ -6,7 +6,7 @@ use Rattle.blocks.specs.Bytes.{Bytes}
 use Rattle.description.specs.Limits.{allowed_length}
 use Rattle.targets.specs.State.{WellFormed}
 use Rattle.targets.specs.Paged.{length_of, count_of, laid_out}
-use Rattle.targets.proofs.Pages.{pages-length, pages-held}
+use Rattle.targets.proofs.Pages.{pages_length, pages_held}
 
 allowed : (sixteens : ℕ) → sixteens < 256 → allowed_length (length_of sixteens) ≡ true
 allowed sixteens l = and_from _ _ (le-leb 16 (length_of sixteens) (omega arith)) (and_from _ _ (le-leb (length_of sixteens) 4096 (omega arith)) (eq-eqb _ 0 (omega arith)))
@@ -23,8 +23,8 @@ formed rewritable sixteens fill memory locked ready small byte bytes a b =
       sized = allowed sixteens small;
       counted = omega arith;
       filled = byte;
-      paged = pages-length n count memory;
-      held = pages-held n count memory room bytes;
+      paged = pages_length n count memory;
+      held = pages_held n count memory room bytes;
       lock_marks = length-take-le count locked (omega arith);
       ready_marks = length-take-le count ready (omega arith);
     }

@@ -6,7 +6,7 @@ use Rattle.refusals.specs.Codes.{Code}
 use Rattle.targets.specs.State.{TargetState, page_of, is_locked}
 use Rattle.targets.specs.Calls.{after, with_page, erase_answer, program_answer, programmed}
 use Rattle.targets.specs.Laws.{Step, erase, program, read, step, run, Alters, Untouched, ReadsBack, LocksKeep, AlwaysReady}
-use Rattle.targets.proofs.Answered.{erase-granted, program-granted, reading-is}
+use Rattle.targets.proofs.Answered.{erase_granted, program_granted, reading_is}
 
 -- a call that puts bytes into page q, or is refused, spares any page that is not q
 spared : (t : TargetState) (p q : ℕ) (bytes : List ℕ) (ready : Bool) (r : Result Unit Code) → ((q ≡ p) × (r ≡ Ok tt) → ⊥) →
@@ -39,20 +39,20 @@ same_run f same t (s ∷ steps) = same_run f same (step t s) steps ∙ same_step
 
 pub reads_back : (t : TargetState) (p : ℕ) (bytes : List ℕ) → length t.pages ≡ t.page_count → ReadsBack t p bytes
 reads_back t p bytes long granted steps untouched out room =
-    let g = program-granted t p (length bytes) granted in
+    let g = program_granted t p (length bytes) granted in
     let first = program p bytes in
     let end = run t (first ∷ steps) in
     let count = same_run (λ (u : TargetState). u.page_count) (λ u q bytes ready. refl) t (first ∷ steps) in
     let size = same_run (λ (u : TargetState). u.page_length) (λ u q bytes ready. refl) t (first ∷ steps) in
-    let says = reading-is end p (omega (arith, g.0, count)) (length out) (Ok tt) (room ∙ sym size) in
+    let says = reading_is end p (omega (arith, g.0, count)) (length out) (Ok tt) (room ∙ sym size) in
     ap (λ (r : Result Unit Code). after r out (page_of end p)) says
     ∙ (run_spares (programmed t p bytes) p steps untouched
     ∙ (ap (λ (r : Result Unit Code). page_of (after r t (with_page t p bytes t.rewritable)) p) granted ∙ get_or-set_same t.pages p bytes [] (omega (arith, g.0))))
 
 -- no call alters a locked page
 barred : (t : TargetState) (p : ℕ) (s : Step) → is_locked t p ≡ true → Alters t p s → ⊥
-barred t p (erase q) e h = both_ways (is_locked t q) (erase-granted t q h.1).1 (ap (is_locked t) h.0 ∙ e)
-barred t p (program q bytes) e h = both_ways (is_locked t q) (program-granted t q (length bytes) h.1).2 (ap (is_locked t) h.0 ∙ e)
+barred t p (erase q) e h = both_ways (is_locked t q) (erase_granted t q h.1).1 (ap (is_locked t) h.0 ∙ e)
+barred t p (program q bytes) e h = both_ways (is_locked t q) (program_granted t q (length bytes) h.1).2 (ap (is_locked t) h.0 ∙ e)
 barred t p (read q) e h = h
 
 pub locks_keep : (t : TargetState) → LocksKeep t
@@ -66,18 +66,18 @@ set_same zero q = refl
 set_same (suc count) zero = refl
 set_same (suc count) (suc q) = ap (λ (marks : List Bool). true ∷ marks) (set_same count q)
 
-ready-after : (t : TargetState) (q : ℕ) (bytes : List ℕ) (ready : Bool) (r : Result Unit Code) → ready ≡ true → t.ready ≡ replicate t.page_count true → (after r t (with_page t q bytes ready)).ready ≡ replicate t.page_count true
-ready-after t q bytes ready (Ok u) e all = ap₂ (λ (marks : List Bool) (b : Bool). set marks q b) all e ∙ set_same t.page_count q
-ready-after t q bytes ready (Err u) e all = all
+ready_after : (t : TargetState) (q : ℕ) (bytes : List ℕ) (ready : Bool) (r : Result Unit Code) → ready ≡ true → t.ready ≡ replicate t.page_count true → (after r t (with_page t q bytes ready)).ready ≡ replicate t.page_count true
+ready_after t q bytes ready (Ok u) e all = ap₂ (λ (marks : List Bool) (b : Bool). set marks q b) all e ∙ set_same t.page_count q
+ready_after t q bytes ready (Err u) e all = all
 
-ready-step : (t : TargetState) (s : Step) → t.rewritable ≡ true → t.ready ≡ replicate t.page_count true → (step t s).ready ≡ replicate t.page_count true
-ready-step t (erase q) e all = ready-after t q _ true (erase_answer t q) refl all
-ready-step t (program q bytes) e all = ready-after t q bytes t.rewritable (program_answer t q (length bytes)) e all
-ready-step t (read q) e all = all
+ready_step : (t : TargetState) (s : Step) → t.rewritable ≡ true → t.ready ≡ replicate t.page_count true → (step t s).ready ≡ replicate t.page_count true
+ready_step t (erase q) e all = ready_after t q _ true (erase_answer t q) refl all
+ready_step t (program q bytes) e all = ready_after t q bytes t.rewritable (program_answer t q (length bytes)) e all
+ready_step t (read q) e all = all
 
 pub always_ready : (t : TargetState) → t.rewritable ≡ true → t.ready ≡ replicate t.page_count true → AlwaysReady t
 always_ready t e all [] = all
 always_ready t e all (s ∷ steps) =
     let count = same_step (λ (u : TargetState). u.page_count) (λ u q bytes ready. refl) t s in
     let marks : ℕ → List Bool = λ n. replicate n true in
-    always_ready (step t s) (same_step (λ (u : TargetState). u.rewritable) (λ u q bytes ready. refl) t s ∙ e) (ready-step t s e all ∙ sym (ap marks count)) steps ∙ ap marks count
+    always_ready (step t s) (same_step (λ (u : TargetState). u.rewritable) (λ u q bytes ready. refl) t s ∙ e) (ready_step t s e all ∙ sym (ap marks count)) steps ∙ ap marks count

@@ -33,20 +33,20 @@ pages_put n (suc count) memory ys (suc q) l h e =
     (ap (pages_in n count) (shift n (q * n) memory ys (omega arith)) ∙ pages_put n count (drop n memory) ys q (omega arith) (simp length-drop (omega arith)) e)
 
 -- a page read
-pub page-at : (n count : ℕ) (memory : List ℕ) (p : ℕ) → p < count → get_or (pages_in n count memory) p [] ≡ take n (drop (p * n) memory)
-page-at n zero memory p l = absurd (omega arith)
-page-at n (suc count) memory zero l = sym (ap (λ (x : ℕ). take n (drop x memory)) (zero-mul n))
-page-at n (suc count) memory (suc q) l = page-at n count (drop n memory) q (omega arith) ∙ (ap (take n) (drop-drop (q * n) n memory) ∙ sym (ap (λ (x : ℕ). take n (drop x memory)) (next n q)))
+pub page_at : (n count : ℕ) (memory : List ℕ) (p : ℕ) → p < count → get_or (pages_in n count memory) p [] ≡ take n (drop (p * n) memory)
+page_at n zero memory p l = absurd (omega arith)
+page_at n (suc count) memory zero l = sym (ap (λ (x : ℕ). take n (drop x memory)) (zero-mul n))
+page_at n (suc count) memory (suc q) l = page_at n count (drop n memory) q (omega arith) ∙ (ap (take n) (drop-drop (q * n) n memory) ∙ sym (ap (λ (x : ℕ). take n (drop x memory)) (next n q)))
 
-pub pages-length : (n count : ℕ) (memory : List ℕ) → length (pages_in n count memory) ≡ count
-pages-length n zero memory = refl
-pages-length n (suc count) memory = ap suc (pages-length n count (drop n memory))
+pub pages_length : (n count : ℕ) (memory : List ℕ) → length (pages_in n count memory) ≡ count
+pages_length n zero memory = refl
+pages_length n (suc count) memory = ap suc (pages_length n count (drop n memory))
 
 -- each holds n bytes
-pub pages-held : (n count : ℕ) (memory : List ℕ) → count * n ≤ length memory → Bytes memory → AllByRecursion (Block n) (pages_in n count memory)
-pages-held n zero memory h bytes = tt
-pages-held n (suc count) memory h bytes =
+pub pages_held : (n count : ℕ) (memory : List ℕ) → count * n ≤ length memory → Bytes memory → AllByRecursion (Block n) (pages_in n count memory)
+pages_held n zero memory h bytes = tt
+pages_held n (suc count) memory h bytes =
     let step = next n count in (
       (length-take-le n memory (omega arith), All-take _ n memory bytes),
-      pages-held n count (drop n memory) (simp length-drop (omega arith)) (All-drop _ n memory bytes),
+      pages_held n count (drop n memory) (simp length-drop (omega arith)) (All-drop _ n memory bytes),
     )

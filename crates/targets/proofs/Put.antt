@@ -8,7 +8,7 @@ use Rattle.targets.specs.State.{TargetState}
 use Rattle.targets.specs.Calls.{after, with_page}
 use Rattle.targets.specs.Paged.{count_of, laid_out, pages_in}
 use Rattle.targets.proofs.Divided.{within, ends_within}
-use Rattle.targets.proofs.Pages.{pages_put, page-at}
+use Rattle.targets.proofs.Pages.{pages_put, page_at}
 
 after-granted : {X : Type 0} {r : Result Unit Code} (was made : X) → Ok tt ≡ r → made ≡ after r was made
 after-granted was made e = ap (λ (r : Result Unit Code). after r was made) e
@@ -59,8 +59,8 @@ pub read_out_lem : (n p size : ℕ) (memory out : List ℕ) {r : Result Unit Cod
 read_out_lem n p size memory out e there granted =
     let whole : p * size + size - p * size ≡ n = omega arith in
     ap₂ (λ (k a : ℕ). take k (drop a memory)) whole (ap (λ (k : ℕ). p * k) e)
-    ∙ (sym (page-at n (count_of n memory) memory p there) ∙ after-granted out _ granted)
+    ∙ (sym (page_at n (count_of n memory) memory p there) ∙ after-granted out _ granted)
 
 -- as long as a page
-pub part-long : (n p size : ℕ) (memory : List ℕ) → size ≡ n → p < count_of n memory → length (take (p * size + size - p * size) (drop (p * size) memory)) ≡ n
-part-long n p size memory e there = let room = ends_within n size p memory e there in simp (length-take, length-drop) (omega arith)
+pub part_long : (n p size : ℕ) (memory : List ℕ) → size ≡ n → p < count_of n memory → length (take (p * size + size - p * size) (drop (p * size) memory)) ≡ n
+part_long n p size memory e there = let room = ends_within n size p memory e there in simp (length-take, length-drop) (omega arith)

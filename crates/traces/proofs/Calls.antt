@@ -20,11 +20,11 @@ use Rattle.downloads.specs.Verdicts.{verify_judged, good_on, verify_answer}
 use Rattle.traces.specs.Traces.{Setting, Call, frame, give, erase, program, close, reopen, verify, done, plain, verdict, Standing, standing, built, judged, effect, answered, step, answer_to}
 use Rattle.traces.specs.Answers.{given_as, verdict_as}
 use Rattle.traces.specs.Promise.{Fit}
-use Rattle.traces.proofs.Outcomes.{by_effect, answer-built, answer-is, cond_ok}
+use Rattle.traces.proofs.Outcomes.{by_effect, answer-built, answer_is, cond_ok}
 use Rattle.traces.proofs.Framing.{Fitting}
 use Rattle.traces.proofs.Giving.{block-answered}
-use Rattle.traces.proofs.Paging.{page-parts, needed_has, needs-back}
-use Rattle.traces.proofs.Lengths.{own, plain-long, prepared-long}
+use Rattle.traces.proofs.Paging.{page_parts, needed_has, needs_back}
+use Rattle.traces.proofs.Lengths.{own, plain_long, prepared_long}
 
 -- ---- opening: no block has arrived
 
@@ -49,34 +49,34 @@ step-built w s c r e q = ap₂ (λ (b : Bool) (x : Result Unit Code). cond b (un
 
 -- ---- what a refusal leaves of each part
 
-copies-part : (r : Result Unit Code) (s : Standing) (copies : Copies) → unless r s (standing copies s.closed s.target) ≡ standing (unless r s.copies copies) s.closed s.target
-copies-part (Ok u) s copies = refl
-copies-part (Err e) s copies = refl
+copies_part : (r : Result Unit Code) (s : Standing) (copies : Copies) → unless r s (standing copies s.closed s.target) ≡ standing (unless r s.copies copies) s.closed s.target
+copies_part (Ok u) s copies = refl
+copies_part (Err e) s copies = refl
 
-closed-part : (r : Result Unit Code) (s : Standing) (closed : Bool) → unless r s (standing s.copies closed s.target) ≡ standing s.copies (unless r s.closed closed) s.target
-closed-part (Ok u) s closed = refl
-closed-part (Err e) s closed = refl
+closed_part : (r : Result Unit Code) (s : Standing) (closed : Bool) → unless r s (standing s.copies closed s.target) ≡ standing s.copies (unless r s.closed closed) s.target
+closed_part (Ok u) s closed = refl
+closed_part (Err e) s closed = refl
 
-target-part : (r : Result Unit Code) (s : Standing) (t : TargetState) → unless r s (standing s.copies s.closed t) ≡ standing s.copies s.closed (unless r s.target t)
-target-part (Ok u) s t = refl
-target-part (Err e) s t = refl
+target_part : (r : Result Unit Code) (s : Standing) (t : TargetState) → unless r s (standing s.copies s.closed t) ≡ standing s.copies s.closed (unless r s.target t)
+target_part (Ok u) s t = refl
+target_part (Err e) s t = refl
 
 module _ (w : Setting) (s : Standing) where
   -- ---- reopening
 
-  pub answer-reopen : s.closed ≡ true → answer_to w s reopen ≡ done
-  answer-reopen o = answer-is w s reopen (Ok tt) o refl
+  pub answer_reopen : s.closed ≡ true → answer_to w s reopen ≡ done
+  answer_reopen o = answer_is w s reopen (Ok tt) o refl
 
-  pub step-reopen : s.closed ≡ true → step w s reopen ≡ standing s.copies false s.target
-  step-reopen o = step-built w s reopen (Ok tt) o refl
+  pub step_reopen : s.closed ≡ true → step w s reopen ≡ standing s.copies false s.target
+  step_reopen o = step-built w s reopen (Ok tt) o refl
 
   -- ---- erasing
 
-  pub answer-erase : (p : ℕ) → answer_to w s (erase p) ≡ answered (erase_answer s.target p) done
-  answer-erase p = answer-built w s (erase p) refl
+  pub answer_erase : (p : ℕ) → answer_to w s (erase p) ≡ answered (erase_answer s.target p) done
+  answer_erase p = answer-built w s (erase p) refl
 
-  pub step-erase : (p : ℕ) → step w s (erase p) ≡ standing s.copies s.closed (erased s.target p)
-  step-erase p = step-built w s (erase p) (erase_answer s.target p) refl refl ∙ target-part (erase_answer s.target p) s _
+  pub step_erase : (p : ℕ) → step w s (erase p) ≡ standing s.copies s.closed (erased s.target p)
+  step_erase p = step-built w s (erase p) (erase_answer s.target p) refl refl ∙ target_part (erase_answer s.target p) s _
 
   -- ---- verifying
 
@@ -85,49 +85,49 @@ module _ (w : Setting) (s : Standing) where
   verdict_by true (Err e) good = refl
   verdict_by false r good = refl
 
-  pub answer-verify : s.closed ≡ true → answer_to w s verify ≡ verdict_as (verify_answer w.rows w.key w.section s.target w.room)
+  pub answer_verify : s.closed ≡ true → answer_to w s verify ≡ verdict_as (verify_answer w.rows w.key w.section s.target w.room)
   unfolding verify_answer
-  answer-verify o =
-      answer-is w s verify (judged w s verify) o refl
+  answer_verify o =
+      answer_is w s verify (judged w s verify) o refl
       ∙ verdict_by (eqb w.room s.target.page_length) (verify_judged w.section s.target) (good_on w.rows w.key w.section s.target)
 
-  pub step-verify : step w s verify ≡ s
-  step-verify = by_effect w s verify (λ u. u ≡ s) refl (λ q. refl)
+  pub step_verify : step w s verify ≡ s
+  step_verify = by_effect w s verify (λ u. u ≡ s) refl (λ q. refl)
 
   -- ---- giving changes nothing
 
-  pub step-give : (i : ℕ) → step w s (give i) ≡ s
-  step-give i = by_effect w s (give i) (λ u. u ≡ s) refl (λ q. refl)
+  pub step_give : (i : ℕ) → step w s (give i) ≡ s
+  step_give i = by_effect w s (give i) (λ u. u ≡ s) refl (λ q. refl)
 
 -- the body and the record are the section's
 module _ (w : Setting) (s : Standing) (body marks : ℕ) (store : good_store w.section body marks ≡ true) where
   -- ---- a frame
 
-  frame-sized : (f : ℕ) (bytes : List ℕ) → frame_judged w.section s.copies f bytes ≡ frame_answer w.section body marks s.copies f bytes
+  frame_sized : (f : ℕ) (bytes : List ℕ) → frame_judged w.section s.copies f bytes ≡ frame_answer w.section body marks s.copies f bytes
   unfolding frame_answer
-  frame-sized f bytes = sym (cond-true (good_store w.section body marks) _ _ store)
+  frame_sized f bytes = sym (cond-true (good_store w.section body marks) _ _ store)
 
-  pub answer-frame : (f : ℕ) (bytes : List ℕ) → s.closed ≡ false → answer_to w s (frame f bytes) ≡ answered (frame_answer w.section body marks s.copies f bytes) done
-  answer-frame f bytes o = answer-is w s (frame f bytes) (frame_answer w.section body marks s.copies f bytes) (ap not o) (frame-sized f bytes)
+  pub answer_frame : (f : ℕ) (bytes : List ℕ) → s.closed ≡ false → answer_to w s (frame f bytes) ≡ answered (frame_answer w.section body marks s.copies f bytes) done
+  answer_frame f bytes o = answer_is w s (frame f bytes) (frame_answer w.section body marks s.copies f bytes) (ap not o) (frame_sized f bytes)
 
-  pub step-frame : (f : ℕ) (bytes : List ℕ) → s.closed ≡ false →
+  pub step_frame : (f : ℕ) (bytes : List ℕ) → s.closed ≡ false →
       step w s (frame f bytes) ≡ standing (unless (frame_answer w.section body marks s.copies f bytes) s.copies (with_frame (block_of w.section) s.copies f bytes)) s.closed s.target
-  step-frame f bytes o =
-      step-built w s (frame f bytes) (frame_answer w.section body marks s.copies f bytes) (ap not o) (frame-sized f bytes)
-      ∙ copies-part (frame_answer w.section body marks s.copies f bytes) s (with_frame (block_of w.section) s.copies f bytes)
+  step_frame f bytes o =
+      step-built w s (frame f bytes) (frame_answer w.section body marks s.copies f bytes) (ap not o) (frame_sized f bytes)
+      ∙ copies_part (frame_answer w.section body marks s.copies f bytes) s (with_frame (block_of w.section) s.copies f bytes)
 
   -- ---- closing
 
-  close-sized : close_judged w.section s.copies ≡ close_answer w.section body marks s.copies
+  close_sized : close_judged w.section s.copies ≡ close_answer w.section body marks s.copies
   unfolding close_answer
-  close-sized = sym (cond-true (good_store w.section body marks) _ _ store)
+  close_sized = sym (cond-true (good_store w.section body marks) _ _ store)
 
-  pub answer-close : s.closed ≡ false → answer_to w s close ≡ answered (close_answer w.section body marks s.copies) done
-  answer-close o = answer-is w s close (close_answer w.section body marks s.copies) (ap not o) close-sized
+  pub answer_close : s.closed ≡ false → answer_to w s close ≡ answered (close_answer w.section body marks s.copies) done
+  answer_close o = answer_is w s close (close_answer w.section body marks s.copies) (ap not o) close_sized
 
-  pub step-close : s.closed ≡ false → step w s close ≡ standing s.copies (unless (close_answer w.section body marks s.copies) s.closed true) s.target
-  step-close o =
-      step-built w s close (close_answer w.section body marks s.copies) (ap not o) close-sized ∙ closed-part (close_answer w.section body marks s.copies) s true
+  pub step_close : s.closed ≡ false → step w s close ≡ standing s.copies (unless (close_answer w.section body marks s.copies) s.closed true) s.target
+  step_close o =
+      step-built w s close (close_answer w.section body marks s.copies) (ap not o) close_sized ∙ closed_part (close_answer w.section body marks s.copies) s true
 
   -- ---- giving
 
@@ -140,54 +140,54 @@ module _ (w : Setting) (s : Standing) (body marks : ℕ) (store : good_store w.s
     given_by_lem i out (Ok u) m long = ap plain (sym (take_at (plain_from w.cipher w.section s.copies i) _ m (long refl)))
     given_by_lem i out (Err e) m long = refl
 
-    give-sized : (i room : ℕ) → room ≡ block_of w.section → give_answer w.cipher w.section body marks s.copies i room ≡ then (give_judged w.section s.copies i) (λ _. Ok (block_bytes w.section i))
+    give_sized : (i room : ℕ) → room ≡ block_of w.section → give_answer w.cipher w.section body marks s.copies i room ≡ then (give_judged w.section s.copies i) (λ _. Ok (block_bytes w.section i))
     unfolding give_answer
-    give-sized i room e = cond-true (eqb w.cipher.size (block_of w.section) && (good_store w.section body marks && eqb room (block_of w.section))) _ _ (right room (block_of w.section) e)
+    give_sized i room e = cond-true (eqb w.cipher.size (block_of w.section) && (good_store w.section body marks && eqb room (block_of w.section))) _ _ (right room (block_of w.section) e)
 
-    given-long : (i : ℕ) → give_judged w.section s.copies i ≡ Ok tt → length (plain_from w.cipher w.section s.copies i) ≡ block_bytes w.section i
-    given-long i ok =
+    given_long : (i : ℕ) → give_judged w.section s.copies i ≡ Ok tt → length (plain_from w.cipher w.section s.copies i) ≡ block_bytes w.section i
+    given_long i ok =
         let low : i < blocks_of w.section = ltb-true i (blocks_of w.section) (cond_ok (ltb i (blocks_of w.section)) _ (refuse BadBlock i Download) tt ok).0 in
-        plain-long w t fit s.copies ft i low ((block-answered w s i low).only (plain_from w.cipher w.section s.copies i) (answer-is w s (give i) (Ok tt) refl ok) i (own w.section.mode i))
+        plain_long w t fit s.copies ft i low ((block-answered w s i low).only (plain_from w.cipher w.section s.copies i) (answer_is w s (give i) (Ok tt) refl ok) i (own w.section.mode i))
 
-    pub answer-give : (i : ℕ) (out : List ℕ) → length out ≡ block_of w.section →
+    pub answer_give : (i : ℕ) (out : List ℕ) → length out ≡ block_of w.section →
         answer_to w s (give i) ≡ given_as (give_answer w.cipher w.section body marks s.copies i (length out)) (out_after w.cipher w.section body marks s.copies i out)
     unfolding out_after
-    answer-give i out e =
+    answer_give i out e =
         let p = plain_from w.cipher w.section s.copies i in
         answer-built w s (give i) refl
-        ∙ (given_by_lem i out (give_judged w.section s.copies i) (block_bytes w.section i) (given-long i)
-        ∙ sym (ap (λ (r : Result ℕ Code). given_as r (unless r out (front p out))) (give-sized i (length out) e)))
+        ∙ (given_by_lem i out (give_judged w.section s.copies i) (block_bytes w.section i) (given_long i)
+        ∙ sym (ap (λ (r : Result ℕ Code). given_as r (unless r out (front p out))) (give_sized i (length out) e)))
 
     -- ---- programming
 
-    page-sized : (j : ℕ) → judged w s (program j) ≡ program_page_answer w.cipher w.section body marks s.target s.copies w.room j
+    page_sized : (j : ℕ) → judged w s (program j) ≡ program_page_answer w.cipher w.section body marks s.target s.copies w.room j
     unfolding page_answer
-    page-sized j =
+    page_sized j =
         let b = eqb w.room s.target.page_length in
         let all : (eqb w.cipher.size (block_of w.section) && (good_store w.section body marks && b)) ≡ b =
         ap₂ (λ (x y : Bool). x && (y && b)) (eq-eqb w.cipher.size (block_of w.section) fit.sized) store in
         sym (ap (λ (x : Bool). then (sized x (page_judged w.section s.target s.copies j)) (λ _. program_answer s.target (w.section.first_page + j) s.target.page_length)) all)
 
-    page-granted : (j : ℕ) → page_answer w.cipher w.section body marks s.target s.copies w.room j ≡ Ok tt → page_judged w.section s.target s.copies j ≡ Ok tt
+    page_granted : (j : ℕ) → page_answer w.cipher w.section body marks s.target s.copies w.room j ≡ Ok tt → page_judged w.section s.target s.copies j ≡ Ok tt
     unfolding page_answer
-    page-granted j ok = (cond_ok (eqb w.cipher.size (block_of w.section) && (good_store w.section body marks && eqb w.room s.target.page_length)) (page_judged w.section s.target s.copies j) (refuse WrongBuffer 0 Download) tt ok).1
+    page_granted j ok = (cond_ok (eqb w.cipher.size (block_of w.section) && (good_store w.section body marks && eqb w.room s.target.page_length)) (page_judged w.section s.target s.copies j) (refuse WrongBuffer 0 Download) tt ok).1
 
     program_by : (a q q' : Result Unit Code) (u : TargetState) → (a ≡ Ok tt → q ≡ q') →
         unless (then a (λ _. q)) s (standing s.copies s.closed u) ≡ standing s.copies s.closed (unless a s.target (unless q' s.target u))
-    program_by (Ok v) q q' u h = ap (λ (r : Result Unit Code). unless r s (standing s.copies s.closed u)) (h refl) ∙ target-part q' s u
+    program_by (Ok v) q q' u h = ap (λ (r : Result Unit Code). unless r s (standing s.copies s.closed u)) (h refl) ∙ target_part q' s u
     program_by (Err e) q q' u h = refl
 
-    pub answer-program : (j : ℕ) → answer_to w s (program j) ≡ answered (program_page_answer w.cipher w.section body marks s.target s.copies w.room j) done
-    answer-program j = answer-is w s (program j) (program_page_answer w.cipher w.section body marks s.target s.copies w.room j) refl (page-sized j)
+    pub answer_program : (j : ℕ) → answer_to w s (program j) ≡ answered (program_page_answer w.cipher w.section body marks s.target s.copies w.room j) done
+    answer_program j = answer_is w s (program j) (program_page_answer w.cipher w.section body marks s.target s.copies w.room j) refl (page_sized j)
 
-    pub step-program : (j : ℕ) → s.target.page_length % block_of w.section ≡ 0 →
+    pub step_program : (j : ℕ) → s.target.page_length % block_of w.section ≡ 0 →
         step w s (program j) ≡ standing s.copies s.closed (target_programmed w.cipher w.section body marks s.target s.copies w.room j)
-    step-program j whole =
+    step_program j whole =
         let p = w.section.first_page + j in
         let P = s.target.page_length in
         let page = prepared_on w.cipher w.section s.target s.copies j in
         let long : page_judged w.section s.target s.copies j ≡ Ok tt → length page ≡ P =
-        λ ok. prepared-long w t fit s.copies ft P s.target.fill whole j (λ k h. needed_has w P whole j s.copies (page-parts w s.target s.copies j ok).1 k (needs-back w P whole j k h)) in
-        step-built w s (program j) (program_page_answer w.cipher w.section body marks s.target s.copies w.room j) refl (page-sized j)
+        λ ok. prepared_long w t fit s.copies ft P s.target.fill whole j (λ k h. needed_has w P whole j s.copies (page_parts w s.target s.copies j ok).1 k (needs_back w P whole j k h)) in
+        step-built w s (program j) (program_page_answer w.cipher w.section body marks s.target s.copies w.room j) refl (page_sized j)
         ∙ program_by (page_answer w.cipher w.section body marks s.target s.copies w.room j) (program_answer s.target p P) (program_answer s.target p (length page)) (with_page s.target p page s.target.rewritable)
-        (λ ok. ap (program_answer s.target p) (sym (long (page-granted j ok))))
+        (λ ok. ap (program_answer s.target p) (sym (long (page_granted j ok))))

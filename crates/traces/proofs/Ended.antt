@@ -14,7 +14,7 @@ use Rattle.traces.specs.Traces.{Setting, Call, Answer, Standing, standing, begun
 use Rattle.traces.specs.Promise.{Fit, Promise, target_after, closed_after}
 use Rattle.traces.specs.Buffers.{Buffers, buffers, buffers_after}
 use Rattle.traces.specs.Runs.{stands_by, Runs}
-use Rattle.traces.proofs.Promised.{promise-holds}
+use Rattle.traces.proofs.Promised.{promise_holds}
 use Rattle.traces.proofs.Told.{stands_as_told}
 use Rattle.traces.proofs.Calls.{cleared}
 
@@ -43,9 +43,9 @@ module _ (w : Setting) (t : TargetState) (fit : Fit w t) (body : List ℕ) (mark
   from_is = ap (λ (c : Copies). standing c false t) (ap (λ (m : List Arrival). copies_in (block_of w.section) body m) clean ∙ cleared (block_of w.section) (blocks_of w.section) body)
 
   -- what was run
-  pub run-whole : (told : List Answer) (page : List ℕ) (end : Standing) (left : Buffers) → told ≡ answers_of w from calls → end ≡ run w from calls → left ≡ buffers_after w from (buffers body marks page) calls →
+  pub run_whole : (told : List Answer) (page : List ℕ) (end : Standing) (left : Buffers) → told ≡ answers_of w from calls → end ≡ run w from calls → left ≡ buffers_after w from (buffers body marks page) calls →
       Runs w t (buffers body (replicate (blocks_of w.section) Missing) page) calls told end.target end.closed left
-  run-whole told page end left e h b =
+  run_whole told page end left e h b =
       let a : told ≡ answers_of w (begun t) calls = e ∙ ap (λ (x : Standing). answers_of w x calls) from_is in
       let told_is = h ∙ (ap (λ (x : Standing). run w x calls) from_is ∙ stands_as_told w t calls) in
       record {
@@ -53,5 +53,5 @@ module _ (w : Setting) (t : TargetState) (fit : Fit w t) (body : List ℕ) (mark
         target_is = ap (λ (x : Standing). x.target) told_is ∙ ap (target_after w t calls) (sym a);
         closed_is = ap (λ (x : Standing). x.closed) told_is ∙ ap (closed_after calls) (sym a);
         buffers_are = b ∙ ap₂ (λ (x : Standing) (m : List Arrival). buffers_after w x (buffers body m page) calls) from_is clean;
-        promise = subst (Promise w t calls) (sym a) (promise-holds w t calls fit all);
+        promise = subst (Promise w t calls) (sym a) (promise_holds w t calls fit all);
       }

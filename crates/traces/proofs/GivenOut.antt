@@ -13,14 +13,14 @@ use Rattle.downloads.proofs.Marks.{take_equal}
 use Rattle.traces.specs.Traces.{plain}
 use Rattle.traces.specs.Answers.{given_as, blank, given_by}
 
-given-then : (r : Result Unit Code) (m k : ℕ) → then r (λ _. Ok m) ≡ Ok k → m ≡ k
-given-then (Ok u) m k e = cc e
-given-then (Err x) m k e = let z : ◌≡◌ {A = ℕ} 0 1 = cc in absurd (omega arith)
+given_then : (r : Result Unit Code) (m k : ℕ) → then r (λ _. Ok m) ≡ Ok k → m ≡ k
+given_then (Ok u) m k e = cc e
+given_then (Err x) m k e = let z : ◌≡◌ {A = ℕ} 0 1 = cc in absurd (omega arith)
 
 module _ (c : BlockMap) (s : Described) (body marks : ℕ) (copies : Copies) (i : ℕ) where
   few : (room k : ℕ) → give_answer c s body marks copies i room ≡ Ok k → k ≤ block_of s
   unfolding give_answer
-  few room k e = let q = given-then (give_judged s copies i) (block_bytes s i) k (ok_sized _ _ k e).1 in omega arith
+  few room k e = let q = given_then (give_judged s copies i) (block_bytes s i) k (ok_sized _ _ k e).1 in omega arith
 
   pub given_out : (n k : ℕ) (out rest : List ℕ) → n ≡ block_of s → n ≤ 16 → length out ≡ length {A = ℕ} (take (n - 0) (replicate 16 0)) → Ok k ≡ give_answer c s body marks copies i (length {A = ℕ} (take (n - 0) (replicate 16 0))) →
       out ≡ out_after c s body marks copies i (take (n - 0) (replicate 16 0)) → plain (take k (out ++ rest)) ≡ given_by c s body marks copies i

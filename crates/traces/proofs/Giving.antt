@@ -12,9 +12,9 @@ use Rattle.modes.specs.Calls.{mode_answer}
 use Rattle.modes.specs.Laws as laws
 use Rattle.modes.specs.Laws.{InPlace, Reaches, Sound, SameBits}
 use Rattle.modes.proofs.Joined.{length-block}
-use Rattle.modes.proofs.Undoing.{depends_le, sent-long}
-use Rattle.modes.proofs.Judged.{judged-sound}
-use Rattle.modes.proofs.Plain.{reach-judged}
+use Rattle.modes.proofs.Undoing.{depends_le, sent_long}
+use Rattle.modes.proofs.Judged.{judged_sound}
+use Rattle.modes.proofs.Plain.{reach_judged}
 use Rattle.sections.specs.Seals.{chaining_of}
 use Rattle.targets.specs.State.{TargetState}
 use Rattle.downloads.specs.Marks.{lowest}
@@ -23,7 +23,7 @@ use Rattle.downloads.specs.Frames.{block_of, blocks_of}
 use Rattle.downloads.specs.Blocks.{depends, give_judged, plain_from}
 use Rattle.traces.specs.Traces.{Setting, give, plain, Standing, answered, answer_to}
 use Rattle.traces.specs.Promise.{Fit, BlockAnswer, refused_with, Sent, sent_block, sent_plain, Unaltered, Altered, Reach}
-use Rattle.traces.proofs.Wanted.{depends_true, depends-back, copy_is, wanted_has, wanted_lacks}
+use Rattle.traces.proofs.Wanted.{depends_true, depends_back, copy_is, wanted_has, wanted_lacks}
 use Rattle.traces.proofs.Outcomes.{answer-built}
 use Rattle.traces.proofs.Framing.{Fitting}
 
@@ -39,19 +39,19 @@ module _ (w : Setting) (copies : Copies) (i : ℕ) (low : i < blocks_of w.sectio
   abbrev found : Option ℕ
   found = lowest (λ k. depends mode i k && lacks copies k) 0 (blocks_of w.section)
 
-  give-is : give_judged w.section copies i ≡ refused_at MissingBlock found
-  give-is = cond-true (ltb i (blocks_of w.section)) _ _ (lt-ltb i (blocks_of w.section) low)
+  give_is : give_judged w.section copies i ≡ refused_at MissingBlock found
+  give_is = cond-true (ltb i (blocks_of w.section)) _ _ (lt-ltb i (blocks_of w.section) low)
 
   handed_by : (o : Option ℕ) → found ≡ o → BlockAnswer w copies i (answered (refused_at MissingBlock o) (plain (plain_from w.cipher w.section copies i)))
   handed_by None e =
       record {
-        only = λ out q. wanted_has (Depends mode i) (depends mode i) copies (blocks_of w.section) (depends_true mode i) (depends-back mode i) below e;
+        only = λ out q. wanted_has (Depends mode i) (depends mode i) copies (blocks_of w.section) (depends_true mode i) (depends_back mode i) below e;
         handed = λ h. (plain_from w.cipher w.section copies i, refl);
         is = λ out q. cc;
         missing = λ never. absurd (never (plain_from w.cipher w.section copies i) refl);
       }
   handed_by (Some k) e =
-      let l = wanted_lacks (Depends mode i) (depends mode i) copies (blocks_of w.section) (depends_true mode i) (depends-back mode i) below k e in
+      let l = wanted_lacks (Depends mode i) (depends mode i) copies (blocks_of w.section) (depends_true mode i) (depends_back mode i) below k e in
       record {
         only = λ out q. absurd (let z : ◌≡◌ {A = ℕ} 0 1 = cc in omega arith);
         handed = λ h. absurd (let b = h k l.holds.0 in let q = b.1 in let r = l.holds.1 in let z : ◌≡◌ {A = ℕ} 0 1 = cc in omega arith);
@@ -63,7 +63,7 @@ pub block-answered : (w : Setting) (s : Standing) (i : ℕ) → i < blocks_of w.
 block-answered w s i low =
     let out = plain (plain_from w.cipher w.section s.copies i) in
     subst (BlockAnswer w s.copies i)
-    (sym (answer-built w s (give i) refl ∙ ap (λ (r : Result Unit Code). answered r out) (give-is w s.copies i low)))
+    (sym (answer-built w s (give i) refl ∙ ap (λ (r : Result Unit Code). answered r out) (give_is w s.copies i low)))
     (handed_by w s.copies i low (found w s.copies i low) refl)
 
 pub no_block_lem : (w : Setting) (s : Standing) (i : ℕ) → blocks_of w.section ≤ i → answer_to w s (give i) ≡ refused_with 10 i
@@ -83,14 +83,14 @@ module _ (w : Setting) (t : TargetState) (fit : Fit w t) where
   abbrev chain : Chaining
   chain = chaining_of w.cipher w.section
 
-  judged-mode : mode_answer w.cipher.size w.section.mode w.section.sync w.section.length ≡ Ok tt
-  judged-mode = ap (λ (n : ℕ). mode_answer n w.section.mode w.section.sync w.section.length) fit.sized ∙ fit.mode
+  judged_mode : mode_answer w.cipher.size w.section.mode w.section.sync w.section.length ≡ Ok tt
+  judged_mode = ap (λ (n : ℕ). mode_answer n w.section.mode w.section.sync w.section.length) fit.sized ∙ fit.mode
 
-  pub sound-chain : Sound chain w.section.length
-  sound-chain = judged-sound w.cipher w.section.mode w.section.sync w.section.length fit.lawful judged-mode
+  pub sound_chain : Sound chain w.section.length
+  sound_chain = judged_sound w.cipher w.section.mode w.section.sync w.section.length fit.lawful judged_mode
 
-  reach-all : Reaches chain w.section.length
-  reach-all = reach-judged w.cipher w.section.mode w.section.sync w.section.length fit.lawful judged-mode
+  reach_all : Reaches chain w.section.length
+  reach_all = reach_judged w.cipher w.section.mode w.section.sync w.section.length fit.lawful judged_mode
 
   module _ (copies : Copies) (ft : Fitting w.section copies) (image : List ℕ) (im : Sent w image) where
     low_size : (k : ℕ) → k < blocks_of w.section → k < block_count w.cipher.size w.section.length
@@ -105,7 +105,7 @@ module _ (w : Setting) (t : TargetState) (fit : Fit w t) where
         let f = ft k h.0 h.1 in
         let c = copy_is copies k h.0 h.1 in
         let sent : length (sent_block w image k) ≡ min (block_of w.section) (w.section.length - block_of w.section * k) =
-        sent-long chain w.section.length sound-chain image im k (low_size k f.0) ∙ (ap length (plain_size k) ∙ (length-block (block_of w.section) k image
+        sent_long chain w.section.length sound_chain image im k (low_size k f.0) ∙ (ap length (plain_size k) ∙ (length-block (block_of w.section) k image
         ∙ ap (λ (x : ℕ). min (block_of w.section) (x - block_of w.section * k)) im.0)) in
         (ap length c ∙ (f.1 ∙ sym sent), subst Bytes (sym c) f.2)
 
@@ -125,7 +125,7 @@ module _ (w : Setting) (t : TargetState) (fit : Fit w t) where
       out = plain_from w.cipher w.section copies i
 
       law : laws.Reach chain w.section.length image (copy_at copies) i
-      law = reach-all image im (copy_at copies) i (low_size i low) (λ k d. in_place k (has k d))
+      law = reach_all image im (copy_at copies) i (low_size i low) (λ k d. in_place k (has k d))
 
       unaltered : ((k : ℕ) → Depends w.section.mode i k → Unaltered w image copies k) → out ≡ sent_plain w image i
       unaltered u = law.unaltered (λ k d. same k (u k d)) ∙ plain_size i

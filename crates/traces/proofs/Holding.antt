@@ -11,7 +11,7 @@ use Rattle.traces.specs.Promise.{Asked, Alters, LastProgrammed}
 use Rattle.traces.proofs.Outcomes.{by_outcome}
 use Rattle.traces.proofs.Framing.{Grows}
 use Rattle.traces.proofs.Running.{Lasting, run-split, done_does, step_lasts, run_lasts, run_grows}
-use Rattle.traces.proofs.Paging.{page-parts, program-parts, needed_has, needs-back, prepared-stays}
+use Rattle.traces.proofs.Paging.{page_parts, program_parts, needed_has, needs_back, prepared-stays}
 
 -- ---- a page that no call alters keeps its bytes
 
@@ -42,25 +42,25 @@ pub record Held (w : Setting) (s : Standing) (j : ℕ) (page : List ℕ) : Type 
   pub has : (k : ℕ) → needs s.target.page_length w.section j k ≡ true → Has s.copies k
 
 module _ (w : Setting) (t : TargetState) (whole : t.page_length % block_of w.section ≡ 0) where
-  step-held : (s : Standing) (x : Call) (j : ℕ) → Lasting w t s → x ≡ program j → answer_to w s x ≡ done → Held w s j (page_of (step w s x).target (w.section.first_page + j))
-  step-held s x j l e a =
+  step_held : (s : Standing) (x : Call) (j : ℕ) → Lasting w t s → x ≡ program j → answer_to w s x ≡ done → Held w s j (page_of (step w s x).target (w.section.first_page + j))
+  step_held s x j l e a =
       let p = w.section.first_page + j in
       let d = done_does w s x a in
-      let parts = page-parts w s.target s.copies j (program-parts w s j (sym (ap (judged w s) e) ∙ d.0)) in
+      let parts = page_parts w s.target s.copies j (program_parts w s j (sym (ap (judged w s) e) ∙ d.0)) in
       let room : p < length s.target.pages = omega (arith, parts.0, l.pages) in
       let wh : s.target.page_length % block_of w.section ≡ 0 = ap (λ (P : ℕ). P % block_of w.section) l.size ∙ whole in
       record {
         made = ap (λ (u : Standing). page_of u.target p) (d.1 ∙ ap (effect w s) e) ∙ get_or-set_same s.target.pages p (prepared_on w.cipher w.section s.target s.copies j) [] room;
-        has = λ k h. needed_has w s.target.page_length wh j s.copies parts.1 k (needs-back w s.target.page_length wh j k h);
+        has = λ k h. needed_has w s.target.page_length wh j s.copies parts.1 k (needs_back w s.target.page_length wh j k h);
       }
 
-  pub last-held : (s : Standing) (calls : List Call) → AllOfBytes calls → Lasting w t s → (k j : ℕ) → Asked k calls (answers_of w s calls) (program j) done →
+  pub last_held : (s : Standing) (calls : List Call) → AllOfBytes calls → Lasting w t s → (k j : ℕ) → Asked k calls (answers_of w s calls) (program j) done →
       ((m : ℕ) (c : Call) → k < m → Asked m calls (answers_of w s calls) c done → Alters w (w.section.first_page + j) c → ⊥) →
       Held w (run w s (take k calls)) j (page_of (run w s calls).target (w.section.first_page + j))
-  last-held s [] b l k j h last = absurd h
-  last-held s (x ∷ calls) b l zero j h last =
-      subst (Held w s j) (sym (run_spares w (step w s x) (w.section.first_page + j) calls (λ m c q. last (suc m) c (omega arith) q))) (step-held s x j l h.0 h.1)
-  last-held s (x ∷ calls) b l (suc k) j h last = last-held (step w s x) calls b.1 (step_lasts w t s x b.0 l) k j h (λ m c q. last (suc m) c (omega arith))
+  last_held s [] b l k j h last = absurd h
+  last_held s (x ∷ calls) b l zero j h last =
+      subst (Held w s j) (sym (run_spares w (step w s x) (w.section.first_page + j) calls (λ m c q. last (suc m) c (omega arith) q))) (step_held s x j l h.0 h.1)
+  last_held s (x ∷ calls) b l (suc k) j h last = last_held (step w s x) calls b.1 (step_lasts w t s x b.0 l) k j h (λ m c q. last (suc m) c (omega arith))
 
   -- ---- and so the page made from the copies now
 
@@ -72,7 +72,7 @@ module _ (w : Setting) (t : TargetState) (whole : t.page_length % block_of w.sec
       let then = run w s (take k calls) in
       let lt = run_lasts w t s (take k calls) (All-take OfBytes k calls b) l in
       let held : Held w then j (page_of (run w s calls).target (w.section.first_page + j)) =
-      last-held s calls b l k j (subst (λ (x : ℕ). Asked k calls (answers_of w s calls) (program x) done) same h.programmed) h.last in
+      last_held s calls b l k j (subst (λ (x : ℕ). Asked k calls (answers_of w s calls) (program x) done) same h.programmed) h.last in
       let grows : Grows then.copies (run w s calls).copies =
       subst (λ (u : Standing). Grows then.copies u.copies) (run-split w s k calls) (run_grows w t then (drop k calls) (All-drop OfBytes k calls b) lt) in
       held.made

@@ -17,7 +17,7 @@ use Rattle.traces.specs.Traces.{Setting}
 use Rattle.traces.specs.Promise.{Fit, Sent, Unaltered}
 use Rattle.traces.proofs.Framing.{Fitting, some_block}
 use Rattle.traces.proofs.Giving.{sent_back}
-use Rattle.traces.proofs.Paging.{per_page, at-page}
+use Rattle.traces.proofs.Paging.{per_page, at_page}
 
 -- ---- bytes with fill after them
 
@@ -26,8 +26,8 @@ filled_full P fill bytes h =
     let z : P - length bytes ≡ 0 = omega arith in
     ap (λ (x : ℕ). bytes ++ replicate x fill) z ∙ append-nil bytes
 
-filled-long : (P fill : ℕ) (bytes : List ℕ) → P ≤ length (filled_up P fill bytes)
-filled-long P fill bytes = omega (arith, length-append bytes (replicate (P - length bytes) fill), length-replicate (P - length bytes) fill)
+filled_long : (P fill : ℕ) (bytes : List ℕ) → P ≤ length (filled_up P fill bytes)
+filled_long P fill bytes = omega (arith, length-append bytes (replicate (P - length bytes) fill), length-replicate (P - length bytes) fill)
 
 -- the first bytes of two lists in a row
 take-front : (n : ℕ) (xs ys : List ℕ) → length xs ≡ n → (m : ℕ) → take (n + m) (xs ++ ys) ≡ xs ++ take m ys
@@ -41,7 +41,7 @@ pages_join P fill some [] image h =
     ⊎_elim
     (λ (l : 0 < length image).
     let e = h 0 (omega (arith, zero-mul P)) in
-    absurd (omega (arith, ap length e, filled-long P fill (take P (drop (0 * P) image)))))
+    absurd (omega (arith, ap length e, filled_long P fill (take P (drop (0 * P) image)))))
     (λ (l : length image ≤ 0). let z : length image ≡ 0 = omega arith in ap (λ (x : ℕ). take {A = ℕ} x []) z ∙ sym (nil_from_length image z))
     (cases_lt 0 (length image))
 pages_join P fill some (page ∷ pages) image h =
@@ -72,12 +72,12 @@ pages_join P fill some (page ∷ pages) image h =
 -- ---- the blocks of a page
 
 -- a run of blocks of a text
-blocks-some : (n c k : ℕ) (text : List ℕ) → joined (λ i. block n i text) k c ≡ take (n * c) (drop (n * k) text)
-blocks-some n zero k text = sym (ap (λ (x : ℕ). take x (drop (n * k) text)) (mul-zero n))
-blocks-some n (suc c) k text =
+blocks_some : (n c k : ℕ) (text : List ℕ) → joined (λ i. block n i text) k c ≡ take (n * c) (drop (n * k) text)
+blocks_some n zero k text = sym (ap (λ (x : ℕ). take x (drop (n * k) text)) (mul-zero n))
+blocks_some n (suc c) k text =
     let e : n * suc c ≡ n + n * c = omega (arith, mul-suc n c) in
     let d : drop (n * suc k) text ≡ drop n (drop (n * k) text) = ap (λ (x : ℕ). drop x text) (mul-suc n k) ∙ sym (drop-drop n (n * k) text) in
-    ap (λ (x : List ℕ). block n k text ++ x) (blocks-some n c (suc k) text ∙ ap (take (n * c)) d)
+    ap (λ (x : List ℕ). block n k text ++ x) (blocks_some n c (suc k) text ∙ ap (take (n * c)) d)
     ∙ sym (ap (λ (x : ℕ). take x (drop (n * k) text)) e ∙ take-add n (n * c) (drop (n * k) text))
 
 -- as much is taken, or all
@@ -92,13 +92,13 @@ module _ (w : Setting) (t : TargetState) (fit : Fit w t) (copies : Copies) (ft :
   m = blocks_of w.section
 
   -- a page made from unaltered copies holds the image's bytes
-  pub prepared-is : (fill j : ℕ) → j * P < w.section.length → prepared w.cipher w.section P fill copies j ≡ filled_up P fill (take P (drop (j * P) image))
+  pub prepared_is : (fill j : ℕ) → j * P < w.section.length → prepared w.cipher w.section P fill copies j ≡ filled_up P fill (take P (drop (j * P) image))
   unfolding prepared
-  prepared-is fill j l =
+  prepared_is fill j l =
       let q : ℕ = first_in P w.section j in
       let c : ℕ = count_in P w.section j in
       let x = drop (j * P) image in
-      let at = at-page w P whole j in
+      let at = at_page w P whole j in
       let per = per_page w P whole j in
       let enough = count_enough n w.section.length (some_block w.section) in
       let low : q < m = lt_of_mul-lt-mul_left n (omega (arith, at, enough)) in
@@ -108,7 +108,7 @@ module _ (w : Setting) (t : TargetState) (fit : Fit w t) (copies : Copies) (ft :
       ap (filled_up P fill)
       (joined_same (plain_from w.cipher w.section copies) (λ i. block n i image) q c
       (λ i a b. let lt : i < m = omega arith in sent_back w t fit copies ft image im i lt (λ k d. all k (omega (arith, lt, depends_le w.section.mode i k d))))
-      ∙ (blocks-some n c q image
+      ∙ (blocks_some n c q image
       ∙ (ap (λ (y : ℕ). take (n * c) (drop y image)) at
       ∙ take_same (n * c) P x
       (⊎_elim
@@ -120,9 +120,9 @@ module _ (w : Setting) (t : TargetState) (fit : Fit w t) (copies : Copies) (ft :
       (cases_lt (P / n) (m - q))))))
 
   -- pages that hold what the copies give hold the image
-  pub image-is : 0 < P → (fill : ℕ) (u : TargetState) → ((j : ℕ) → j * P < w.section.length → page_of u (w.section.first_page + j) ≡ prepared w.cipher w.section P fill copies j) → image_on w.section u ≡ image
+  pub image_is : 0 < P → (fill : ℕ) (u : TargetState) → ((j : ℕ) → j * P < w.section.length → page_of u (w.section.first_page + j) ≡ prepared w.cipher w.section P fill copies j) → image_on w.section u ≡ image
   unfolding image_on
-  image-is some fill u h =
+  image_is some fill u h =
       ap (λ (x : ℕ). take x (flat (drop w.section.first_page u.pages))) (sym im.0)
       ∙ pages_join P fill some (drop w.section.first_page u.pages) image
-      (λ j b. let l : j * P < w.section.length = omega (arith, im.0) in get_or-drop w.section.first_page u.pages j [] ∙ (h j l ∙ prepared-is fill j l))
+      (λ j b. let l : j * P < w.section.length = omega (arith, im.0) in get_or-drop w.section.first_page u.pages j [] ∙ (h j l ∙ prepared_is fill j l))

@@ -9,8 +9,8 @@ found_by : (test : ℕ → Bool) (m j i : ℕ) (o : Option ℕ) → lowest test 
 found_by test m j i None e a b t = absurd (both_ways (test i) (none_found test m j e i a b) t)
 found_by test m j i (Some k) e a b t = refl
 
-pub lowest-found : (test : ℕ → Bool) (m j i : ℕ) → j ≤ i → i < j + m → test i ≡ true → is_some (lowest test j m) ≡ true
-lowest-found test m j i a b t = found_by test m j i (lowest test j m) refl a b t
+pub lowest_found : (test : ℕ → Bool) (m j i : ℕ) → j ≤ i → i < j + m → test i ≡ true → is_some (lowest test j m) ≡ true
+lowest_found test m j i a b t = found_by test m j i (lowest test j m) refl a b t
 
 -- what was found passes
 which_by : (test : ℕ → Bool) (m j : ℕ) (o : Option ℕ) → lowest test j m ≡ o → is_some o ≡ true → (i : ℕ) × (j ≤ i) × (i < j + m) × (test i ≡ true)

@@ -48,5 +48,5 @@ pub answer_not : (w : Setting) (s : Standing) (c : Call) → built s.closed c �
 unfolding answer_to
 answer_not w s c e = ap (λ (b : Bool). cond b (answered (judged w s c) (says w s c)) not_built) e
 
-pub answer-is : (w : Setting) (s : Standing) (c : Call) (r : Result Unit Code) → built s.closed c ≡ true → judged w s c ≡ r → answer_to w s c ≡ answered r (says w s c)
-answer-is w s c r e q = answer-built w s c e ∙ ap (λ (x : Result Unit Code). answered x (says w s c)) q
+pub answer_is : (w : Setting) (s : Standing) (c : Call) (r : Result Unit Code) → built s.closed c ≡ true → judged w s c ≡ r → answer_to w s c ≡ answered r (says w s c)
+answer_is w s c r e q = answer-built w s c e ∙ ap (λ (x : Result Unit Code). answered x (says w s c)) q

@@ -23,26 +23,26 @@ use Rattle.downloads.specs.Blocks.{depends, plain_from}
 use Rattle.downloads.specs.Pages.{place_of, first_in, count_in, needs, filled_up, prepared, on_target, page_judged}
 use Rattle.traces.specs.Traces.{Setting, program, done, refused, Standing, judged, answered, answer_to}
 use Rattle.traces.specs.Promise.{Missing, Lowest, Needs, PageAnswer}
-use Rattle.traces.proofs.Lowest.{lowest-found, lowest_which}
-use Rattle.traces.proofs.Wanted.{depends_true, depends-back, copy_is, wanted_has, wanted_lacks}
+use Rattle.traces.proofs.Lowest.{lowest_found, lowest_which}
+use Rattle.traces.proofs.Wanted.{depends_true, depends_back, copy_is, wanted_has, wanted_lacks}
 use Rattle.traces.proofs.Outcomes.{cond_ok, at_ok, then_ok, answer-built}
 use Rattle.traces.proofs.Framing.{Grows, some_block}
 
 -- ---- a page is some whole blocks
 
-whole-kind : (kind : CipherKind) (P : ℕ) → P % 16 ≡ 0 → P % block_length kind ≡ 0
-whole-kind Gost P e = omega arith
-whole-kind Kuznyechik P e = e
+whole_kind : (kind : CipherKind) (P : ℕ) → P % 16 ≡ 0 → P % block_length kind ≡ 0
+whole_kind Gost P e = omega arith
+whole_kind Kuznyechik P e = e
 
-pub whole-page : (w : Setting) (t : TargetState) → WellFormed t → t.page_length % block_of w.section ≡ 0
-whole-page w t formed =
+pub whole_page : (w : Setting) (t : TargetState) → WellFormed t → t.page_length % block_of w.section ≡ 0
+whole_page w t formed =
     let P = t.page_length in
     let a = and_parts (leb 16 P) (leb P 4096 && eqb (P % 16) 0) formed.sized in
     let b = and_parts (leb P 4096) (eqb (P % 16) 0) a.1 in
-    whole-kind w.section.cipher P (eqb-true (P % 16) 0 b.1)
+    whole_kind w.section.cipher P (eqb-true (P % 16) 0 b.1)
 
-pub some-page : (t : TargetState) → WellFormed t → 0 < t.page_length
-some-page t formed =
+pub some_page : (t : TargetState) → WellFormed t → 0 < t.page_length
+some_page t formed =
     let P = t.page_length in
     let a = and_parts (leb 16 P) (leb P 4096 && eqb (P % 16) 0) formed.sized in
     omega (arith, leb-true 16 P a.0)
@@ -61,8 +61,8 @@ module _ (w : Setting) (P : ℕ) (whole : P % block_of w.section ≡ 0) (j : ℕ
   per_page = omega (arith, div-add-mod' P n, mul_comm n (P / n), whole)
 
   -- where its first block lies
-  pub at-page : n * first ≡ j * P
-  at-page = mul_comm n first ∙ (mul_assoc j (P / n) n ∙ ap (λ (x : ℕ). j * x) (mul_comm (P / n) n ∙ per_page))
+  pub at_page : n * first ≡ j * P
+  at_page = mul_comm n first ∙ (mul_assoc j (P / n) n ∙ ap (λ (x : ℕ). j * x) (mul_comm (P / n) n ∙ per_page))
 
   -- ---- the test for a needed block
 
@@ -70,13 +70,13 @@ module _ (w : Setting) (P : ℕ) (whole : P % block_of w.section ≡ 0) (j : ℕ
   needs_true k h =
       let i = h.0 in
       let some = some_block w.section in
-      let lo : first ≤ i = ⊎_elim (λ (b : i < first). let le : i + 1 ≤ first = omega arith in absurd (omega (arith, mul-le-mul_left n le, mul-add n i 1, mul-one n, at-page, h.2, some))) (λ (b : first ≤ i). b) (cases_lt i first) in
-      let hi : i < first + P / n = lt_of_mul-lt-mul_left n (omega (arith, mul-add n first (P / n), at-page, per_page, h.3)) in
+      let lo : first ≤ i = ⊎_elim (λ (b : i < first). let le : i + 1 ≤ first = omega arith in absurd (omega (arith, mul-le-mul_left n le, mul-add n i 1, mul-one n, at_page, h.2, some))) (λ (b : first ≤ i). b) (cases_lt i first) in
+      let hi : i < first + P / n = lt_of_mul-lt-mul_left n (omega (arith, mul-add n first (P / n), at_page, per_page, h.3)) in
       let up : i < first + count = omega (arith, h.1) in
-      lowest-found (λ i. depends w.section.mode i k) count first i lo up (depends_true w.section.mode i k h.4)
+      lowest_found (λ i. depends w.section.mode i k) count first i lo up (depends_true w.section.mode i k h.4)
 
-  pub needs-back : (k : ℕ) → needs P w.section j k ≡ true → Needs w P j k
-  needs-back k h =
+  pub needs_back : (k : ℕ) → needs P w.section j k ≡ true → Needs w P j k
+  needs_back k h =
       let r = lowest_which (λ i. depends w.section.mode i k) count first h in
       let some = some_block w.section in
       let i = r.0 in
@@ -84,9 +84,9 @@ module _ (w : Setting) (P : ℕ) (whole : P % block_of w.section ≡ 0) (j : ℕ
       let hi : i + 1 ≤ first + P / n = omega (arith, r.2) in (
         i,
         omega (arith, r.1, r.2),
-        omega (arith, mul-le-mul_left n lo, at-page),
-        omega (arith, mul-le-mul_left n hi, mul-add n i 1, mul-one n, mul-add n first (P / n), at-page, per_page, some),
-        depends-back w.section.mode i k r.3,
+        omega (arith, mul-le-mul_left n lo, at_page),
+        omega (arith, mul-le-mul_left n hi, mul-add n i 1, mul-one n, mul-add n first (P / n), at_page, per_page, some),
+        depends_back w.section.mode i k r.3,
       )
 
   pub needs_low : (k : ℕ) → Needs w P j k → k < blocks_of w.section
@@ -99,7 +99,7 @@ module _ (w : Setting) (P : ℕ) (whole : P % block_of w.section ≡ 0) (j : ℕ
     found = lowest (λ k. needs P w.section j k && lacks copies k) 0 (blocks_of w.section)
 
     pub needed_has : found ≡ None → (k : ℕ) → Needs w P j k → Has copies k
-    needed_has e = wanted_has (Needs w P j) (needs P w.section j) copies (blocks_of w.section) needs_true needs-back needs_low e
+    needed_has e = wanted_has (Needs w P j) (needs P w.section j) copies (blocks_of w.section) needs_true needs_back needs_low e
 
     -- a refusal with the number 12
     abbrev Twelve : Code → Type 0
@@ -121,12 +121,12 @@ module _ (w : Setting) (P : ℕ) (whole : P % block_of w.section ≡ 0) (j : ℕ
     only_then (Ok u) next h g = g
     only_then (Err e) next h g = h
 
-    only-found : (o : Option ℕ) → found ≡ o → Only (refused_at MissingBlock o)
-    only-found None e = tt
-    only-found (Some k) e = λ q. (refl, wanted_lacks (Needs w P j) (needs P w.section j) copies (blocks_of w.section) needs_true needs-back needs_low k e)
+    only_found : (o : Option ℕ) → found ≡ o → Only (refused_at MissingBlock o)
+    only_found None e = tt
+    only_found (Some k) e = λ q. (refl, wanted_lacks (Needs w P j) (needs P w.section j) copies (blocks_of w.section) needs_true needs_back needs_low k e)
 
-    only-target : (t : TargetState) (p m : ℕ) → Only (program_answer t p m)
-    only-target t p m =
+    only_target : (t : TargetState) (p m : ℕ) → Only (program_answer t p m)
+    only_target t p m =
         let r₄ = refused_if (not (is_ready t p)) NotReady p (Ok tt) in
         let r₃ = refused_if (is_locked t p) LockedPage p r₄ in
         let r₂ = refused_if (not (eqb m t.page_length)) WrongBuffer 0 r₃ in
@@ -147,16 +147,16 @@ module _ (w : Setting) (P : ℕ) (whole : P % block_of w.section ≡ 0) (j : ℕ
   either_way (Err e) = inr (e, refl)
 
 -- a page that can be prepared is on the target, and each block that it needs has a copy
-pub page-parts : (w : Setting) (t : TargetState) (copies : Copies) (j : ℕ) → page_judged w.section t copies j ≡ Ok tt →
+pub page_parts : (w : Setting) (t : TargetState) (copies : Copies) (j : ℕ) → page_judged w.section t copies j ≡ Ok tt →
     (w.section.first_page + j < t.page_count) × (lowest (λ k. needs t.page_length w.section j k && lacks copies k) 0 (blocks_of w.section) ≡ None)
-page-parts w t copies j ok =
+page_parts w t copies j ok =
     let lacking = lowest (λ k. needs t.page_length w.section j k && lacks copies k) 0 (blocks_of w.section) in
     let c = cond_ok (on_target w.section t j) (refused_at MissingBlock lacking) (refuse NoSuchPage (place_of (w.section.first_page + j)) Download) tt ok in
     let d = and_parts (ltb (j * t.page_length) w.section.length) (ltb (w.section.first_page + j) t.page_count) c.0 in
     (ltb-true (w.section.first_page + j) t.page_count d.1, at_ok MissingBlock lacking c.1)
 
-pub program-parts : (w : Setting) (s : Standing) (j : ℕ) → judged w s (program j) ≡ Ok tt → page_judged w.section s.target s.copies j ≡ Ok tt
-program-parts w s j ok =
+pub program_parts : (w : Setting) (s : Standing) (j : ℕ) → judged w s (program j) ≡ Ok tt → page_judged w.section s.target s.copies j ≡ Ok tt
+program_parts w s j ok =
     let a = then_ok (sized (eqb w.room s.target.page_length) (page_judged w.section s.target s.copies j)) _ ok in
     (cond_ok (eqb w.room s.target.page_length) (page_judged w.section s.target s.copies j) (refuse WrongBuffer 0 Download) tt a.0).1
 
@@ -171,26 +171,26 @@ program_ok w s j whole room inside there have free ready =
     let none : lowest test 0 (blocks_of w.section) ≡ None =
     lowest_none test (blocks_of w.section) 0
     (λ k x y. elim (cases_Bool (needs P w.section j k)) [
-      | inl n ↦ let h = have k (needs-back w P whole j k n) in and_right (needs P w.section j k) (lacks s.copies k) (ap (λ (o : Option (List ℕ)). not (is_some o)) h.1)
+      | inl n ↦ let h = have k (needs_back w P whole j k n) in and_right (needs P w.section j k) (lacks s.copies k) (ap (λ (o : Option (List ℕ)). not (is_some o)) h.1)
       | inr n ↦ and_left (needs P w.section j k) (lacks s.copies k) n
     ]) in
     rw (eq-eqb w.room P room, lt-ltb (j * P) w.section.length inside, lt-ltb p s.target.page_count there, none, lt-leb s.target.page_count p there, eq-eqb P P refl, free, ready)
 
-pub page-answered : (w : Setting) (s : Standing) (j : ℕ) → s.target.page_length % block_of w.section ≡ 0 → PageAnswer w s.target.page_length s.copies s.target j (answer_to w s (program j))
-page-answered w s j whole =
+pub page_answered : (w : Setting) (s : Standing) (j : ℕ) → s.target.page_length % block_of w.section ≡ 0 → PageAnswer w s.target.page_length s.copies s.target j (answer_to w s (program j))
+page_answered w s j whole =
     let P = s.target.page_length in
     let lacking = lowest (λ k. needs P w.section j k && lacks s.copies k) 0 (blocks_of w.section) in
     let r = judged w s (program j) in
     let only : Only w P whole j s.copies r =
     only_then w P whole j s.copies (sized (eqb w.room P) (page_judged w.section s.target s.copies j)) (program_answer s.target (w.section.first_page + j) P)
     (only_cond w P whole j s.copies (eqb w.room P) (page_judged w.section s.target s.copies j) (refuse WrongBuffer 0 Download) (λ x. omega arith)
-    (only_cond w P whole j s.copies (on_target w.section s.target j) (refused_at MissingBlock lacking) (refuse NoSuchPage (place_of (w.section.first_page + j)) Download) (λ x. omega arith) (only-found w P whole j s.copies lacking refl)))
-    (only-target w P whole j s.copies s.target (w.section.first_page + j) P) in
+    (only_cond w P whole j s.copies (on_target w.section s.target j) (refused_at MissingBlock lacking) (refuse NoSuchPage (place_of (w.section.first_page + j)) Download) (λ x. omega arith) (only_found w P whole j s.copies lacking refl)))
+    (only_target w P whole j s.copies s.target (w.section.first_page + j) P) in
     subst (PageAnswer w P s.copies s.target j) (sym (answer-built w s (program j) refl))
     (record {
       either = either_way w P whole j r;
       accepted = λ room inside there have free ready. ap (λ (x : Result Unit Code). answered x done) (program_ok w s j whole room inside there have free ready);
-      only = λ e. needed_has w P whole j s.copies (page-parts w s.target s.copies j (program-parts w s j (done_ok w P whole j r e))).1;
+      only = λ e. needed_has w P whole j s.copies (page_parts w s.target s.copies j (program_parts w s j (done_ok w P whole j r e))).1;
       missing = only_err w P whole j s.copies r only;
     })
 
@@ -204,5 +204,5 @@ prepared-stays w P fill whole j copies later g has =
     ap (filled_up P fill)
     (joined_same (plain_from w.cipher w.section later) (plain_from w.cipher w.section copies) (first_in P w.section j) (count_in P w.section j)
     (λ i a b. plain_same w.section.mode w.cipher chain.sync (copy_at later) (copy_at copies) i
-    (λ k d. let h = has k (lowest-found (λ i. depends w.section.mode i k) (count_in P w.section j) (first_in P w.section j) i a b (depends_true w.section.mode i k d)) in
+    (λ k d. let h = has k (lowest_found (λ i. depends w.section.mode i k) (count_in P w.section j) (first_in P w.section j) i a b (depends_true w.section.mode i k d)) in
     copy_is later k h.0 (g k h.0 h.1) ∙ sym (copy_is copies k h.0 h.1))))

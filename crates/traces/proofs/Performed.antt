@@ -5,7 +5,7 @@ use Rattle.std.proofs.lemmas.Bool.{cases_lt, eq-eqb, false≢true}
 use Rattle.refusals.specs.Codes.{Code, unless}
 use Rattle.blocks.specs.Bytes.{Bytes, block}
 use Rattle.modes.specs.Modes.{block_count}
-use Rattle.modes.proofs.Joined.{length-block, bytes-block}
+use Rattle.modes.proofs.Joined.{length-block, bytes_block}
 use Rattle.sections.specs.Entries.{Described}
 use Rattle.targets.specs.State.{TargetState}
 use Rattle.targets.specs.Calls.{erase_answer, erased}
@@ -27,8 +27,8 @@ use Rattle.traces.specs.Buffers.{Buffers, buffers, after}
 use Rattle.traces.specs.Runs.{stands_by}
 use Rattle.traces.proofs.Outcomes.{answer_not}
 use Rattle.traces.proofs.Framing.{Fitting}
-use Rattle.traces.proofs.Paging.{whole-page}
-use Rattle.traces.proofs.Calls.{step_not, answer-reopen, step-reopen, answer-erase, step-erase, answer-verify, step-verify, step-give, answer-frame, step-frame, answer-close, step-close, answer-give, answer-program, step-program}
+use Rattle.traces.proofs.Paging.{whole_page}
+use Rattle.traces.proofs.Calls.{step_not, answer_reopen, step_reopen, answer_erase, step_erase, answer_verify, step_verify, step_give, answer_frame, step_frame, answer_close, step_close, answer_give, answer_program, step_program}
 
 pub record Performs (w : Setting) (s u : Standing) (b v : Buffers) (c : Call) (a : Answer) : Type 0 where
   pub answer : a ≡ answer_to w s c
@@ -40,22 +40,22 @@ some_arrived : (arrived : Bool) (b c : List ℕ) → cond arrived (Some b) None 
 some_arrived true b c e = (refl, cc e)
 some_arrived false b c e = let z : ◌≡◌ {A = ℕ} 0 1 = cc in absurd (omega arith)
 
-pub copies-fit : (s : Described) (body : List ℕ) (marks : List Arrival) → good_store s (length body) (length marks) ≡ true → Bytes body → Fitting s (copies_in (block_of s) body marks)
+pub copies_fit : (s : Described) (body : List ℕ) (marks : List Arrival) → good_store s (length body) (length marks) ≡ true → Bytes body → Fitting s (copies_in (block_of s) body marks)
 unfolding copies_in
-copies-fit s body marks store bytes k b e =
+copies_fit s body marks store bytes k b e =
     let store' = store_parts s (length body) (length marks) store in
     let a = some_arrived (arrived_at marks k) (block (block_of s) k body) b e in
     let low : k < blocks_of s = elim (cases_lt k (length marks)) [
       | inl l ↦ omega (arith, store'.1)
       | inr h ↦ absurd (false≢true (sym (past_marks marks k h) ∙ a.0))
     ] in
-    (low, ap length (sym a.1) ∙ (length-block (block_of s) k body ∙ ap (λ (L : ℕ). min (block_of s) (L - block_of s * k)) store'.0), subst Bytes a.1 (bytes-block (block_of s) k body bytes))
+    (low, ap length (sym a.1) ∙ (length-block (block_of s) k body ∙ ap (λ (L : ℕ). min (block_of s) (L - block_of s * k)) store'.0), subst Bytes a.1 (bytes_block (block_of s) k body bytes))
 
 -- a frame leaves as many marks
-pub marks-kept : (s : Described) (body : List ℕ) (marks : List Arrival) (f : ℕ) (bytes : List ℕ) (closed : Bool) →
+pub marks_kept : (s : Described) (body : List ℕ) (marks : List Arrival) (f : ℕ) (bytes : List ℕ) (closed : Bool) →
     length (cond closed marks (unless (frame_answer s (length body) (length marks) (copies_in (block_of s) body marks) f bytes) marks (marks_after (block_of s) f bytes marks))) ≡ length marks
-marks-kept s body marks f bytes true = refl
-marks-kept s body marks f bytes false = by_answer (frame_answer s (length body) (length marks) (copies_in (block_of s) body marks) f bytes) refl
+marks_kept s body marks f bytes true = refl
+marks_kept s body marks f bytes false = by_answer (frame_answer s (length body) (length marks) (copies_in (block_of s) body marks) f bytes) refl
   where
     by_answer : (r : Result Unit Code) → r ≡ frame_answer s (length body) (length marks) (copies_in (block_of s) body marks) f bytes → length (unless r marks (marks_after (block_of s) f bytes marks)) ≡ length marks
     by_answer (Ok u) e =
@@ -81,9 +81,9 @@ module _ (w : Setting) (body : List ℕ) (marks : List Arrival) (t : TargetState
   abbrev framed : ℕ → List ℕ → Result Unit Code
   framed f bytes = frame_answer w.section (length body) (length marks) copies f bytes
 
-  frame-holds : (f : ℕ) (bytes : List ℕ) (r : Result Unit Code) (b v : Buffers) → unless r b v ≡ cond (is_done (answered r done)) v b
-  frame-holds f bytes (Ok u) b v = refl
-  frame-holds f bytes (Err e) b v = refl
+  frame_holds : (f : ℕ) (bytes : List ℕ) (r : Result Unit Code) (b v : Buffers) → unless r b v ≡ cond (is_done (answered r done)) v b
+  frame_holds f bytes (Ok u) b v = refl
+  frame_holds f bytes (Err e) b v = refl
 
   parts_held : (r : Result Unit Code) (b₁ b₂ : List ℕ) (m₁ m₂ : List Arrival) → buffers (unless r b₁ b₂) (unless r m₁ m₂) page ≡ unless r (buffers b₁ m₁ page) (buffers b₂ m₂ page)
   parts_held (Ok u) b₁ b₂ m₁ m₂ = refl
@@ -104,21 +104,21 @@ module _ (w : Setting) (body : List ℕ) (marks : List Arrival) (t : TargetState
       }
   performs_frame false f bytes a body' marks' ea eb em ec =
       let n = block_of w.section in
-      let said = answer-frame w (at false) (length body) (length marks) store f bytes refl in
+      let said = answer_frame w (at false) (length body) (length marks) store f bytes refl in
       record {
         answer = ea ∙ sym said;
-        stands = ap (λ (c : Copies). standing c false t) ec ∙ sym (step-frame w (at false) (length body) (length marks) store f bytes refl);
+        stands = ap (λ (c : Copies). standing c false t) ec ∙ sym (step_frame w (at false) (length body) (length marks) store f bytes refl);
         holds =
             ap₂ (λ (b : List ℕ) (m : List Arrival). buffers b m page) eb em
             ∙ (parts_held (framed f bytes) body (body_after n f bytes body) marks (marks_after n f bytes marks)
-            ∙ (frame-holds f bytes (framed f bytes) held (buffers (body_after n f bytes body) (marks_after n f bytes marks) page)
+            ∙ (frame_holds f bytes (framed f bytes) held (buffers (body_after n f bytes body) (marks_after n f bytes marks) page)
             ∙ ap (λ (x : Answer). cond (is_done x) (buffers (body_after n f bytes body) (marks_after n f bytes marks) page) held) (sym said)));
       }
 
   pub performs_erase : (closed : Bool) (p : ℕ) (a : Answer) (t' : TargetState) → a ≡ answered (erase_answer t p) done → t' ≡ erased t p → Performs w (at closed) (stands_by w.section body marks closed t') held held (erase p) a
   performs_erase closed p a t' ea et = record {
-    answer = ea ∙ sym (answer-erase w (at closed) p);
-    stands = ap (standing copies closed) et ∙ sym (step-erase w (at closed) p);
+    answer = ea ∙ sym (answer_erase w (at closed) p);
+    stands = ap (standing copies closed) et ∙ sym (step_erase w (at closed) p);
     holds = refl;
   }
 
@@ -127,36 +127,36 @@ module _ (w : Setting) (body : List ℕ) (marks : List Arrival) (t : TargetState
   performs_close true closed' a ea ec =
       let n = not_made true close refl refl in record { answer = ea ∙ n.answer; stands = ap at ec ∙ n.stands; holds = refl }
   performs_close false closed' a ea ec = record {
-    answer = ea ∙ sym (answer-close w (at false) (length body) (length marks) store refl);
-    stands = ap at ec ∙ sym (step-close w (at false) (length body) (length marks) store refl);
+    answer = ea ∙ sym (answer_close w (at false) (length body) (length marks) store refl);
+    stands = ap at ec ∙ sym (step_close w (at false) (length body) (length marks) store refl);
     holds = refl;
   }
 
   pub performs_reopen : (closed closed' : Bool) (a : Answer) → a ≡ cond closed done not_built → closed' ≡ false → Performs w (at closed) (at closed') held held reopen a
-  performs_reopen true closed' a ea ec = record { answer = ea ∙ sym (answer-reopen w (at true) refl); stands = ap at ec ∙ sym (step-reopen w (at true) refl); holds = refl }
+  performs_reopen true closed' a ea ec = record { answer = ea ∙ sym (answer_reopen w (at true) refl); stands = ap at ec ∙ sym (step_reopen w (at true) refl); holds = refl }
   performs_reopen false closed' a ea ec =
       let n = not_made false reopen refl refl in record { answer = ea ∙ n.answer; stands = ap at ec ∙ n.stands; holds = refl }
 
   pub performs_verify : (closed : Bool) (a : Answer) (page' : List ℕ) → a ≡ cond closed (verdict_as (verify_answer w.rows w.key w.section t w.room)) not_built →
       page' ≡ cond closed (read_after w.rows w.key w.section t page) page → Performs w (at closed) (at closed) held (buffers body marks page') verify a
-  performs_verify true a page' ea ep = record { answer = ea ∙ sym (answer-verify w (at true) refl); stands = sym (step-verify w (at true)); holds = ap (buffers body marks) ep }
+  performs_verify true a page' ea ep = record { answer = ea ∙ sym (answer_verify w (at true) refl); stands = sym (step_verify w (at true)); holds = ap (buffers body marks) ep }
   performs_verify false a page' ea ep =
-      let n = not_made false verify refl refl in record { answer = ea ∙ n.answer; stands = sym (step-verify w (at false)); holds = ap (buffers body marks) ep }
+      let n = not_made false verify refl refl in record { answer = ea ∙ n.answer; stands = sym (step_verify w (at false)); holds = ap (buffers body marks) ep }
 
   module _ (fit : Fit w t) (bytes : Bytes body) where
     fits : Fitting w.section copies
-    fits = copies-fit w.section body marks store bytes
+    fits = copies_fit w.section body marks store bytes
 
     pub performs_give : (closed : Bool) (i : ℕ) (a : Answer) → a ≡ given_by w.cipher w.section (length body) (length marks) copies i → Performs w (at closed) (at closed) held held (give i) a
     performs_give closed i a ea = record {
-      answer = ea ∙ sym (answer-give w (at closed) (length body) (length marks) store t fit fits i (blank (block_of w.section)) (length-replicate (block_of w.section) 0));
-      stands = sym (step-give w (at closed) i);
+      answer = ea ∙ sym (answer_give w (at closed) (length body) (length marks) store t fit fits i (blank (block_of w.section)) (length-replicate (block_of w.section) 0));
+      stands = sym (step_give w (at closed) i);
       holds = refl;
     }
 
-    page-said : (j : ℕ) → page_answer w.cipher w.section (length body) (length marks) t copies w.room j ≡ sized (eqb w.room t.page_length) (page_judged w.section t copies j)
+    page_said : (j : ℕ) → page_answer w.cipher w.section (length body) (length marks) t copies w.room j ≡ sized (eqb w.room t.page_length) (page_judged w.section t copies j)
     unfolding page_answer
-    page-said j =
+    page_said j =
         let b = eqb w.room t.page_length in
         ap (λ (x : Bool). sized x (page_judged w.section t copies j)) (ap₂ (λ (x y : Bool). x && (y && b)) (eq-eqb w.cipher.size (block_of w.section) fit.sized) store)
 
@@ -169,11 +169,11 @@ module _ (w : Setting) (body : List ℕ) (marks : List Arrival) (t : TargetState
         let c = w.cipher in
         let s = w.section in
         record {
-          answer = ea ∙ (ap (λ (k : ℕ). answered (program_page_answer c s (length body) (length marks) t copies k j) done) (sym room) ∙ sym (answer-program w (at closed) (length body) (length marks) store t fit fits j));
+          answer = ea ∙ (ap (λ (k : ℕ). answered (program_page_answer c s (length body) (length marks) t copies k j) done) (sym room) ∙ sym (answer_program w (at closed) (length body) (length marks) store t fit fits j));
           stands =
               ap (standing copies closed) (et ∙ ap (λ (k : ℕ). target_programmed c s (length body) (length marks) t copies k j) (sym room))
-              ∙ sym (step-program w (at closed) (length body) (length marks) store t fit fits j (whole-page w t fit.target));
+              ∙ sym (step_program w (at closed) (length body) (length marks) store t fit fits j (whole_page w t fit.target));
           holds =
               ap (buffers body marks)
-              (ep ∙ ap (λ (r : Result Unit Code). unless r page (prepared_on c s t copies j)) (ap (λ (k : ℕ). page_answer c s (length body) (length marks) t copies k j) (sym room) ∙ page-said j));
+              (ep ∙ ap (λ (r : Result Unit Code). unless r page (prepared_on c s t copies j)) (ap (λ (k : ℕ). page_answer c s (length body) (length marks) t copies k j) (sym room) ∙ page_said j));
         }

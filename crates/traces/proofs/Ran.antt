@@ -42,11 +42,11 @@ module _ (cipher : BlockMap) (first : Described) (rows : Rows) (key : List ℕ) 
     abbrev at : Standing
     at = stands_by section body marks closed t
 
-    setting-is : here ≡ w
-    setting-is = ap₂ (λ (x : Described) (k : ℕ). setting cipher x rows key k) was.same was.room
+    setting_is : here ≡ w
+    setting_is = ap₂ (λ (x : Described) (k : ℕ). setting cipher x rows key k) was.same was.room
 
-    at-is : at ≡ stands_by first body marks closed t
-    at-is = ap (λ (x : Described). stands_by x body marks closed t) was.same
+    at_is : at ≡ stands_by first body marks closed t
+    at_is = ap (λ (x : Described). stands_by x body marks closed t) was.same
 
     pub ran_more : (a : CodeAnswer) → i < length calls → i < length told → section' ≡ section → length body' ≡ length body → length marks' ≡ length marks → length page' ≡ length page →
         OfBytes (call_of (get_or calls i d)) → answer_of a ≡ answer_to here at (call_of (get_or calls i d)) → stands_by section body' marks' closed' t' ≡ step here at (call_of (get_or calls i d)) →
@@ -62,11 +62,11 @@ module _ (cipher : BlockMap) (first : Described) (rows : Rows) (key : List ℕ) 
           room = lp ∙ was.room;
           store = ap₂ (λ (x y : ℕ). good_store first x y) lb lm ∙ was.store;
           made = made_more call_of answer_of w s calls told i d a u (stands_by first body' marks' closed' t') li lt was.made ob
-              (ea ∙ ap₂ (λ (x : Setting) (y : Standing). answer_to x y c) setting-is at-is)
-              (ap (λ (x : Described). stands_by x body' marks' closed' t') (sym was.same) ∙ (es ∙ ap₂ (λ (x : Setting) (y : Standing). step x y c) setting-is at-is));
+              (ea ∙ ap₂ (λ (x : Setting) (y : Standing). answer_to x y c) setting_is at_is)
+              (ap (λ (x : Described). stands_by x body' marks' closed' t') (sym was.same) ∙ (es ∙ ap₂ (λ (x : Setting) (y : Standing). step x y c) setting_is at_is));
           holds =
               eh
-              ∙ (ap₂ (λ (x : Setting) (y : Standing). after x y (buffers body marks page) c) setting-is (at-is ∙ was.made.stands)
+              ∙ (ap₂ (λ (x : Setting) (y : Standing). after x y (buffers body marks page) c) setting_is (at_is ∙ was.made.stands)
               ∙ (ap (λ (x : Buffers). after w (run w s past) x c) was.holds ∙ sym (ap (buffers_after w s b) more ∙ buffers_push w s b past c)));
         }
 

@@ -19,14 +19,14 @@ pub answers_push : (w : Setting) (s : Standing) (calls : List Call) (c : Call) �
 answers_push w s [] c = refl
 answers_push w s (x ∷ calls) c = ap (λ (l : List Answer). answer_to w s x ∷ l) (answers_push w (step w s x) calls c)
 
-pub answers-long : (w : Setting) (s : Standing) (calls : List Call) → length (answers_of w s calls) ≡ length calls
-answers-long w s [] = refl
-answers-long w s (c ∷ calls) = ap suc (answers-long w (step w s c) calls)
+pub answers_long : (w : Setting) (s : Standing) (calls : List Call) → length (answers_of w s calls) ≡ length calls
+answers_long w s [] = refl
+answers_long w s (c ∷ calls) = ap suc (answers_long w (step w s c) calls)
 
-pub answers-take : (w : Setting) (s : Standing) (k : ℕ) (calls : List Call) → take k (answers_of w s calls) ≡ answers_of w s (take k calls)
-answers-take w s zero calls = refl
-answers-take w s (suc k) [] = refl
-answers-take w s (suc k) (c ∷ calls) = ap (λ (l : List Answer). answer_to w s c ∷ l) (answers-take w (step w s c) k calls)
+pub answers_take : (w : Setting) (s : Standing) (k : ℕ) (calls : List Call) → take k (answers_of w s calls) ≡ answers_of w s (take k calls)
+answers_take w s zero calls = refl
+answers_take w s (suc k) [] = refl
+answers_take w s (suc k) (c ∷ calls) = ap (λ (l : List Answer). answer_to w s c ∷ l) (answers_take w (step w s c) k calls)
 
 -- the first k calls, then the others
 pub run-split : (w : Setting) (s : Standing) (k : ℕ) (calls : List Call) → run w (run w s (take k calls)) (drop k calls) ≡ run w s calls

@@ -12,7 +12,7 @@ use Rattle.downloads.specs.Frames.{blocks_of}
 use Rattle.downloads.proofs.Lowest.{found, none_found}
 use Rattle.traces.specs.Traces.{Setting, erase, close, reopen, Answer, done, refused, Standing, answered, answer_to}
 use Rattle.traces.specs.Promise.{refused_with, EraseAnswer, CloseAnswer, ReopenAnswer}
-use Rattle.traces.proofs.Outcomes.{answer-built, answer-is, answer_not}
+use Rattle.traces.proofs.Outcomes.{answer-built, answer_is, answer_not}
 use Rattle.traces.proofs.Wanted.{has_of, none_of}
 
 refused_not : (a : Answer) (e : Code) → a ≡ refused e → a ≡ done → ⊥
@@ -34,11 +34,11 @@ erase_by t p a e =
           record { only = λ q. absurd (refused_not a _ said q); accepted = λ l n. absurd (omega arith) }
     ]
 
-pub erase-answered : (w : Setting) (s : Standing) (p : ℕ) → EraseAnswer s.target p (answer_to w s (erase p))
-erase-answered w s p = erase_by s.target p (answer_to w s (erase p)) (answer-built w s (erase p) refl)
+pub erase_answered : (w : Setting) (s : Standing) (p : ℕ) → EraseAnswer s.target p (answer_to w s (erase p))
+erase_answered w s p = erase_by s.target p (answer_to w s (erase p)) (answer-built w s (erase p) refl)
 
-pub reopen-answered : (w : Setting) (s : Standing) → ReopenAnswer s.closed (answer_to w s reopen)
-reopen-answered w s = record { accepted = λ c. answer-is w s reopen (Ok tt) c refl; early = λ c. answer_not w s reopen c }
+pub reopen_answered : (w : Setting) (s : Standing) → ReopenAnswer s.closed (answer_to w s reopen)
+reopen_answered w s = record { accepted = λ c. answer_is w s reopen (Ok tt) c refl; early = λ c. answer_not w s reopen c }
 
 module _ (w : Setting) (s : Standing) where
   abbrev copies : Copies
@@ -49,11 +49,11 @@ module _ (w : Setting) (s : Standing) where
 
   receiving : s.closed ≡ false → (o : Option ℕ) → lowest (lacks copies) 0 m ≡ o → CloseAnswer w copies s.closed (answer_to w s close)
   receiving c None e =
-      let said : answer_to w s close ≡ done = answer-is w s close (Ok tt) (ap not c) (ap (refused_at MissingBlock) e) in
+      let said : answer_to w s close ≡ done = answer_is w s close (Ok tt) (ap not c) (ap (refused_at MissingBlock) e) in
       let have : (k : ℕ) → k < m → Has copies k = λ k l. has_of copies k (copies k) refl (not-false (is_some (copies k)) (none_found (lacks copies) m 0 e k (omega arith) (omega arith))) in
       record { only = λ q. (c, have); accepted = λ x h. said; missing = λ x n. absurd (n said); late = λ x. absurd (false≢true (sym c ∙ x)) }
   receiving c (Some k) e =
-      let said : answer_to w s close ≡ refused_with 12 k = answer-is w s close (Err (refuse MissingBlock k Download)) (ap not c) (ap (refused_at MissingBlock) e) in
+      let said : answer_to w s close ≡ refused_with 12 k = answer_is w s close (Err (refuse MissingBlock k Download)) (ap not c) (ap (refused_at MissingBlock) e) in
       let p = found (lacks copies) m 0 k e in
       let none : copies k ≡ None = none_of (copies k) (not-true (is_some (copies k)) p.passes) in
       let gap : ((i : ℕ) → i < m → Has copies i) → ⊥ = λ h. let b = h k (omega (arith, p.to)) in both_ways (is_some (copies k)) (ap is_some none) (ap is_some b.1) in
@@ -74,8 +74,8 @@ module _ (w : Setting) (s : Standing) where
         late = λ x. absurd (false≢true (sym c ∙ x));
       }
 
-  pub close-answered : CloseAnswer w copies s.closed (answer_to w s close)
-  close-answered =
+  pub close_answered : CloseAnswer w copies s.closed (answer_to w s close)
+  close_answered =
       elim (cases_Bool s.closed) [
         | inl shut ↦
             let said = answer_not w s close (ap not shut) in

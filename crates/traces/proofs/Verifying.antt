@@ -11,16 +11,16 @@ use Rattle.targets.specs.State.{TargetState}
 use Rattle.downloads.specs.Verdicts.{image_on, value_of_image, first_off, verify_judged, good_on}
 use Rattle.traces.specs.Traces.{Setting, verify, verdict, Standing, judged, answer_to}
 use Rattle.traces.specs.Promise.{VerifyAnswer, value_on}
-use Rattle.traces.proofs.Outcomes.{cond_ok, by_outcome, answer-is, answer_not}
+use Rattle.traces.proofs.Outcomes.{cond_ok, by_outcome, answer_is, answer_not}
 
 -- a verdict is given by a call that is not refused, and says what it says
-pub verdict-is : (w : Setting) (s : Standing) (good : Bool) → answer_to w s verify ≡ verdict good → (s.closed ≡ true) × (judged w s verify ≡ Ok tt) × (good_on w.rows w.key w.section s.target ≡ good)
-verdict-is w s good =
+pub verdict_is : (w : Setting) (s : Standing) (good : Bool) → answer_to w s verify ≡ verdict good → (s.closed ≡ true) × (judged w s verify ≡ Ok tt) × (good_on w.rows w.key w.section s.target ≡ good)
+verdict_is w s good =
     by_outcome w s verify (λ u a. a ≡ verdict good → (s.closed ≡ true) × (judged w s verify ≡ Ok tt) × (good_on w.rows w.key w.section s.target ≡ good))
     (λ b e. absurd (let z : ◌≡◌ {A = ℕ} 0 1 = cc in omega arith)) (λ x b q e. absurd (let z : ◌≡◌ {A = ℕ} 0 1 = cc in omega arith)) (λ b q e. (b, q, cc))
 
-pub verify-answered : (w : Setting) (s : Standing) → VerifyAnswer w s.target s.closed (answer_to w s verify)
-verify-answered w s =
+pub verify_answered : (w : Setting) (s : Standing) → VerifyAnswer w s.target s.closed (answer_to w s verify)
+verify_answered w s =
     let t = s.target in
     let P = t.page_length in
     let value = value_on w t in
@@ -28,19 +28,19 @@ verify-answered w s =
     let fits = leb (pages_end P w.section) t.page_count in
     let off : Result Unit Code = Err (refuse NoSuchPage (first_off w.section t) Download) in
     record {
-      good = λ e. eqb-true value w.section.tag (verdict-is w s true e).2;
-      bad = λ e. eqb-false value w.section.tag (verdict-is w s false e).2;
+      good = λ e. eqb-true value w.section.tag (verdict_is w s true e).2;
+      bad = λ e. eqb-false value w.section.tag (verdict_is w s false e).2;
       only = λ good e.
-          let v = verdict-is w s good e in
+          let v = verdict_is w s good e in
           let a = cond_ok (eqb w.room P) on (refuse WrongBuffer 0 Download) tt v.1 in
           let b = cond_ok fits (Ok tt) (refuse NoSuchPage (first_off w.section t) Download) tt a.1 in
           (v.0, eqb-true w.room P a.0, leb-true (pages_end P w.section) t.page_count b.0);
       judges = λ c r l. (
         good_on w.rows w.key w.section t,
-        answer-is w s verify (Ok tt) c (cond-true (eqb w.room P) _ _ (eq-eqb w.room P r) ∙ cond-true fits (Ok tt) off (le-leb (pages_end P w.section) t.page_count l)),
+        answer_is w s verify (Ok tt) c (cond-true (eqb w.room P) _ _ (eq-eqb w.room P r) ∙ cond-true fits (Ok tt) off (le-leb (pages_end P w.section) t.page_count l)),
       );
-      buffer = λ c r. answer-is w s verify (Err (refuse WrongBuffer 0 Download)) c (cond-false (eqb w.room P) _ _ (ne_eqb w.room P r));
-      off = λ c r l. answer-is w s verify off c (cond-true (eqb w.room P) _ _ (eq-eqb w.room P r) ∙ cond-false fits (Ok tt) off (lt-leb (pages_end P w.section) t.page_count l));
+      buffer = λ c r. answer_is w s verify (Err (refuse WrongBuffer 0 Download)) c (cond-false (eqb w.room P) _ _ (ne_eqb w.room P r));
+      off = λ c r l. answer_is w s verify off c (cond-true (eqb w.room P) _ _ (eq-eqb w.room P r) ∙ cond-false fits (Ok tt) off (lt-leb (pages_end P w.section) t.page_count l));
       early = λ c. answer_not w s verify c;
     }
 

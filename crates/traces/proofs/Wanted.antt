@@ -15,10 +15,10 @@ depends_true Codebook i k h = eq-eqb k i h
 depends_true Counter i k h = eq-eqb k i h
 depends_true Feedback i k h = ⊎_elim (λ e. or_left (eqb k i) (eqb (suc k) i) (eq-eqb k i e)) (λ e. or_right (eqb k i) (eqb (suc k) i) (eq-eqb (suc k) i e)) h
 
-pub depends-back : (mode : Mode) (i k : ℕ) → depends mode i k ≡ true → Depends mode i k
-depends-back Codebook i k h = eqb-true k i h
-depends-back Counter i k h = eqb-true k i h
-depends-back Feedback i k h = ⊎_elim (λ e. inl (eqb-true k i e)) (λ e. inr (eqb-true (suc k) i e)) (or_cases (eqb k i) (eqb (suc k) i) h)
+pub depends_back : (mode : Mode) (i k : ℕ) → depends mode i k ≡ true → Depends mode i k
+depends_back Codebook i k h = eqb-true k i h
+depends_back Counter i k h = eqb-true k i h
+depends_back Feedback i k h = ⊎_elim (λ e. inl (eqb-true k i e)) (λ e. inr (eqb-true (suc k) i e)) (or_cases (eqb k i) (eqb (suc k) i) h)
 
 -- ---- a copy is there, or not
 pub has_of : (copies : Copies) (k : ℕ) (o : Option (List ℕ)) → copies k ≡ o → is_some o ≡ true → Has copies k

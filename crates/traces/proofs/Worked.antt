@@ -6,7 +6,7 @@ use Rattle.blocks.specs.Bytes.{Bytes}
 use Rattle.blocks.specs.Ciphers.{Lawful}
 use Rattle.gost.specs.Rounds.{mixed, round, last_round, forward}
 use Rattle.gost.specs.Cipher.{registers, block_of, enciphered, sixteen}
-use Rattle.gost.proofs.Undoing.{gost-lawful}
+use Rattle.gost.proofs.Undoing.{gost_lawful}
 use Rattle.imitovstavka.specs.Chain.{absorbed, imitovstavka}
 use Rattle.targets.specs.State.{WellFormed}
 use Rattle.downloads.specs.Copies.{Copies}
@@ -58,8 +58,8 @@ untouched_last w p (suc k) (x ∷ calls) (y ∷ answers) h (suc m) c l q a = unt
 
 -- ---- a sound download
 
-sound-programmed : (j : ℕ) → j * 16 < 9 → LastProgrammed sound_setting (take 13 sound_calls) (take 13 sound_answers) (1 + j)
-sound-programmed j l =
+sound_programmed : (j : ℕ) → j * 16 < 9 → LastProgrammed sound_setting (take 13 sound_calls) (take 13 sound_answers) (1 + j)
+sound_programmed j l =
     record {
       place = 10;
       page = 0;
@@ -72,12 +72,12 @@ sound_trace : SoundTrace
 unfolding mixed round last_round forward registers block_of enciphered sixteen absorbed imitovstavka with_frame prepared image_on step answer_to
 sound_trace =
     record {
-      fit = record { lawful = gost-lawful zeros (refl, refl) zero_key; sized = refl; mode = refl; target = flash_formed };
+      fit = record { lawful = gost_lawful zeros (refl, refl) zero_key; sized = refl; mode = refl; target = flash_formed };
       bytes = search arith;
       answers = refl;
       sent = (refl, search arith);
       unaltered = below_two (λ i. Unaltered sound_setting nine (copies_at sound_setting sound_calls sound_answers 13) i) refl refl;
-      programmed = sound-programmed;
+      programmed = sound_programmed;
       tag = refl;
     }
 
@@ -110,26 +110,26 @@ xors_lawful =
       };
     }
 
-altered-fit : Fit altered_setting flash
-altered-fit = record { lawful = xors_lawful; sized = refl; mode = refl; target = flash_formed }
+altered_fit : Fit altered_setting flash
+altered_fit = record { lawful = xors_lawful; sized = refl; mode = refl; target = flash_formed }
 
 -- an unaltered block is not altered
 not_both : (w : Setting) (image : List ℕ) (copies : Copies) (k : ℕ) → Unaltered w image copies k → Altered w image copies k → ⊥
 not_both w image copies k u a = a.2 (let r : Some a.0 ≡ Some (sent_block w image k) = sym a.1 ∙ u in cc)
 
-altered-copies : Copies
-altered-copies = copies_at altered_setting altered_calls altered_answers 5
+altered_copies : Copies
+altered_copies = copies_at altered_setting altered_calls altered_answers 5
 
 altered_trace : AlteredTrace
-unfolding mixed round last_round forward registers block_of enciphered sixteen absorbed imitovstavka with_frame prepared image_on step answer_to altered-copies
+unfolding mixed round last_round forward registers block_of enciphered sixteen absorbed imitovstavka with_frame prepared image_on step answer_to altered_copies
 altered_trace =
-    let copies = altered-copies in
+    let copies = altered_copies in
     let P : ℕ → Type 0 = λ j. Altered altered_setting thirty_two copies j → j ≡ 1 in
     let there : (run altered_setting (begun flash) (take 5 altered_calls)).copies ≡ copies = ap (λ (s : Standing). s.copies) (stands_at altered_setting flash altered_calls 5) in
     let low : (j : ℕ) → Altered altered_setting thirty_two copies j → j < 4 =
-    λ j a. ((lasting altered_setting flash altered-fit (take 5 altered_calls) (search arith)).fits j a.0 (ap (λ (c : Copies). c j) there ∙ a.1)).0 in
+    λ j a. ((lasting altered_setting flash altered_fit (take 5 altered_calls) (search arith)).fits j a.0 (ap (λ (c : Copies). c j) there ∙ a.1)).0 in
     record {
-      fit = altered-fit;
+      fit = altered_fit;
       bytes = search arith;
       answers = refl;
       sent = (refl, search arith);

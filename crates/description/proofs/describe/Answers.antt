@@ -2,13 +2,13 @@ use Rattle.std.proofs.Common.{length, Err, sym, ap, ◌∙◌, arith}
 use Rattle.std.proofs.lemmas.Bool.{eqb-true, eqb-false}
 use Rattle.description.specs.Scan.{rest_of, line_at}
 use Rattle.description.specs.Meaning.{parts_of}
-use Rattle.description.proofs.FirstBad.{first-bad}
-use Rattle.description.proofs.Judged.{after_less, at-end, refused_line, taken_line, too_long, from_first}
+use Rattle.description.proofs.FirstBad.{first_bad}
+use Rattle.description.proofs.Judged.{after_less, at_end, refused_line, taken_line, too_long, from_first}
 use Rattle.description.proofs.describe.Goals as goal
 
 pub returns-then-text-gt-LONGEST : goal.returns-then-text-gt-LONGEST
 returns-then-text-gt-LONGEST c =
-    record { value = ap Err c.refusal.ensures ∙ sym (too_long c.args.text.now (omega arith)); prefix = first-bad }
+    record { value = ap Err c.refusal.ensures ∙ sym (too_long c.args.text.now (omega arith)); prefix = first_bad }
 
 pub loop-scanner-init : goal.loop-scanner-init
 loop-scanner-init c =
@@ -21,7 +21,7 @@ pub returns-in-Err : goal.returns-in-Err
 returns-in-Err c =
     let s = c.loop-scanner.scanner in
     let line = refused_line (line_at s) (parts_of c.loop-scanner.draft) (rest_of s) c.in-Err.reason (sym c.in-Err.ensures.value) in
-    record { value = ap Err c.refusal-in-Err.ensures ∙ (sym line ∙ sym c.loop-scanner.invariant); prefix = first-bad }
+    record { value = ap Err c.refusal-in-Err.ensures ∙ (sym line ∙ sym c.loop-scanner.invariant); prefix = first_bad }
 
 pub loop-scanner-smaller : goal.loop-scanner-smaller
 loop-scanner-smaller c =
@@ -40,5 +40,5 @@ pub returns : goal.returns
 returns c =
     let s = c.loop-scanner.scanner in
     let empty = eqb-true (length (rest_of s)) 0 (sym c.loop-scanner-test.ensures) in
-    let end = at-end (line_at s) (parts_of c.loop-scanner.draft) (rest_of s) empty in
-    record { value = c.finish.ensures ∙ (sym end ∙ sym c.loop-scanner.invariant); prefix = first-bad }
+    let end = at_end (line_at s) (parts_of c.loop-scanner.draft) (rest_of s) empty in
+    record { value = c.finish.ensures ∙ (sym end ∙ sym c.loop-scanner.invariant); prefix = first_bad }

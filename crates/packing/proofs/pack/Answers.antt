@@ -12,7 +12,7 @@ use Rattle.packing.specs.Plans.{work_of}
 use Rattle.packing.specs.Keys.{Spread, spread_in}
 use Rattle.packing.specs.Packed.{means_of}
 use Rattle.packing.specs.Laws.{HoldsFor}
-use Rattle.packing.proofs.Granted.{with_keys, keys_are, too_few, too_many, fault_told, as_listed, holds_for, fault_known, keys-long}
+use Rattle.packing.proofs.Granted.{with_keys, keys_are, too_few, too_many, fault_told, as_listed, holds_for, fault_known, keys_long}
 use Rattle.packing.proofs.pack.Goals as goal
 
 pub returns-then-is_empty : goal.returns-then-is_empty
@@ -42,7 +42,7 @@ returns-in_err-file c =
     let p = err_from_is_err_and c.from_residual-in_err-file.result c.from_residual-in_err-file.ensures.1 in
     rw (p.1, p.2) (record {
       answer = fault_told (vec_items {Z = Global}) target c.args.keys.now (map work_of xs) k c.in_err-file.field-0.0 c.in_ok-keys.ensures (omega arith) (omega arith) c.in_err-file.ensures;
-      memory = fault_known c.in_err-file.field-0.0 _ (keys-long c.args.keys.now k c.in_ok-keys.ensures, omega arith, omega arith);
+      memory = fault_known c.in_err-file.field-0.0 _ (keys_long c.args.keys.now k c.in_ok-keys.ensures, omega arith, omega arith);
       holds = tt;
     })
 

@@ -1,7 +1,7 @@
 use Rattle.std.proofs.Common.{◌≡◌, ℕ, ◌+◌, ◌-◌, ◌*◌, ◌/◌, length, ap, ◌∙◌, arith}
 use Rattle.description.specs.Meaning.{meaning_of}
 use Rattle.support.specs.Images.{pages_for}
-use Rattle.support.proofs.Reporting.{pages-counted, image-fits, blocks_are, reported}
+use Rattle.support.proofs.Reporting.{pages_counted, image_fits, blocks_are, reported}
 use Rattle.support.proofs.report_on.Goals as goal
 
 pub returns : goal.returns
@@ -11,8 +11,8 @@ returns c =
     let n : ℕ = length image in
     let pages = c.in_ok-image_pages.image_pages in
     let p = c.in_ok-image_pages.ensures in
-    let count : pages ≡ pages_for target.page_length n = (pages-counted target.page_length target.page_count n pages p).0 in
-    let fits = image-fits target.page_length n (omega (arith, target.allowed.0)) in
+    let count : pages ≡ pages_for target.page_length n = (pages_counted target.page_length target.page_count n pages p).0 in
+    let fits = image_fits target.page_length n (omega (arith, target.allowed.0)) in
     let blocks = blocks_are target.page_length pages target.allowed.2 in
     let more : ℕ = target.page_length * pages_for target.page_length n - n in
     let all : 8 * (pages * (target.page_length / 8)) ≡ n + more = blocks ∙ (ap (λ (k : ℕ). target.page_length * k) count ∙ omega arith) in

@@ -2,7 +2,7 @@ use Rattle.std.proofs.Common.{◌≡◌, ◌+◌, ◌<◌, length, take, sym, re
 use Rattle.std.proofs.lemmas.List.{take_all, take_more_set, length-take-le}
 use Rattle.description.specs.Judge.{all_numbers, added}
 use Rattle.description.specs.Meaning.{NoRow}
-use Rattle.description.proofs.Numbers.{prefixed, prefixed_more, prefixed-all, narrow_more, stopped, too_wide, too_many}
+use Rattle.description.proofs.Numbers.{prefixed, prefixed_more, prefixed_all, narrow_more, stopped, too_wide, too_many}
 use Rattle.description.proofs.reading.box_row.Goals as goal
 
 pub loop-place-init : goal.loop-place-init
@@ -53,7 +53,7 @@ returns c =
     let ends = c.in-EndOfLine.ensures in
     let all : take c.loop-place.place ns ≡ ns = take_all c.loop-place.place ns (omega arith) in
     let e = ap all_numbers first.0 ∙ ap (added c.in-Number.row) (inv.2 ∙ ap (λ ts. prefixed (take c.loop-place.place ns) (all_numbers ts)) ends.0) in (
-      e ∙ rw (all, prefixed-all ns),
+      e ∙ rw (all, prefixed_all ns),
       rw all at inv.1,
       (ends.1 ∙ (inv.3 ∙ first.1), λ h. ends.2 h ∙ ap (λ m. m + 1) (inv.4 ∙ first.2)),
     )

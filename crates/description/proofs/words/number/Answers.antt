@@ -2,7 +2,7 @@ use Rattle.std.proofs.Common.{◌+◌, length, get_or, drop, sym, ◌∙◌, ari
 use Rattle.std.proofs.lemmas.List.{at_drop_more, at_drop_all}
 use Rattle.std.proofs.lemmas.Bool.{eqb-false}
 use Rattle.description.specs.Words.{digits_after}
-use Rattle.description.proofs.Steps.{digits_step, digits_stop, number-within, more_digits}
+use Rattle.description.proofs.Steps.{digits_step, digits_stop, number_within, more_digits}
 use Rattle.description.proofs.words.number.Goals as goal
 
 pub returns-then-b-lt48 : goal.returns-then-b-lt48
@@ -10,7 +10,7 @@ returns-then-b-lt48 c =
     let xs = c.args.word.now in
     let at = at_drop_more (digits_after c.loop-b.n) xs c.loop-b.b-index 0 c.loop-b-test.true in
     let stop = digits_stop c.loop-b.n (get_or xs c.loop-b.b-index 0) (drop (c.loop-b.b-index + 1) xs) c.then-b-lt48.either in
-    let ends = number-within xs (omega arith) c.if-word-gt5.false in
+    let ends = number_within xs (omega arith) c.if-word-gt5.false in
     let inv = c.loop-b.invariant.1 in cc
 
 pub loop-b-preserved : goal.loop-b-preserved
@@ -26,5 +26,5 @@ pub returns : goal.returns
 returns c =
     let xs = c.args.word.now in
     let at = at_drop_all (digits_after c.loop-b.n) xs c.loop-b.b-index c.loop-b-test.false in
-    let ends = number-within xs (omega (arith, eqb-false (length xs) 0 (sym c.is_empty.ensures ∙ c.if-is_empty.false))) c.if-word-gt5.false in
+    let ends = number_within xs (omega (arith, eqb-false (length xs) 0 (sym c.is_empty.ensures ∙ c.if-is_empty.false))) c.if-word-gt5.false in
     let inv = c.loop-b.invariant.1 in cc

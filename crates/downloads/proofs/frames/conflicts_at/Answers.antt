@@ -2,7 +2,7 @@ use Rattle.std.proofs.Common.{◌≡◌, ℕ, ◌+◌, ◌-◌, ◌*◌, ◌<◌
 use Rattle.std.specs.Str.{bytes_eq}
 use Rattle.blocks.specs.Bytes.{block}
 use Rattle.downloads.specs.Marks.{marks_in}
-use Rattle.downloads.proofs.Framing.{framed, frame_low, conflict-missing, conflict_arrived, cut-frame, cut-body}
+use Rattle.downloads.proofs.Framing.{framed, frame_low, conflict_missing, conflict_arrived, cut_frame, cut_body}
 use Rattle.downloads.proofs.frames.conflicts_at.Goals as goal
 
 pub overflow_add-first : goal.overflow_add-first
@@ -13,7 +13,7 @@ overflow_add-first c =
 
 pub returns-then-not-has : goal.returns-then-not-has
 returns-then-not-has c =
-    sym (conflict-missing c.args.n c.args.body.now (marks_in c.args.arrivals.now) c.args.first c.args.frame.now (c.args.first + c.args.i) (sym c.if-not-has.ensures))
+    sym (conflict_missing c.args.n c.args.body.now (marks_in c.args.arrivals.now) c.args.first c.args.frame.now (c.args.first + c.args.i) (sym c.if-not-has.ensures))
 
 pub returns : goal.returns
 returns c =
@@ -25,8 +25,8 @@ returns c =
     let pos : 0 < n = c.requires.small.0 in
     let fr = framed n (length body) first (length frame) c.requires.frame in
     let back : first + i - first ≡ i = omega arith in
-    let b = cut-body n first i c.min-end.result body frame pos c.requires.within fr c.min-end.ensures in
-    let f = cut-frame n first i c.min-end.result body frame pos c.requires.within fr c.min-end.ensures in
+    let b = cut_body n first i c.min-end.result body frame pos c.requires.within fr c.min-end.ensures in
+    let f = cut_frame n first i c.min-end.result body frame pos c.requires.within fr c.min-end.ensures in
     c.ne.ensures
     ∙ (ap₂ (λ (x y : List ℕ). not (bytes_eq x y)) b (f ∙ ap (λ (k : ℕ). block n k frame) (sym back))
     ∙ sym (conflict_arrived n body (marks_in c.args.arrivals.now) first frame (first + i) (omega arith) (subst (λ (k : ℕ). n * k < length frame) (sym back) c.requires.within) (sym c.if-not-has.ensures)))

@@ -4,8 +4,8 @@ use Rattle.modes.specs.Modes.{block_count}
 use Rattle.downloads.specs.Marks.{marks_in}
 use Rattle.downloads.specs.Copies.{Copies, copies_in}
 use Rattle.downloads.specs.Frames.{good_frame, conflicts}
-use Rattle.downloads.proofs.Lowest.{lowest-is, lowest_none}
-use Rattle.downloads.proofs.Framing.{framed, begins, frame_low, blocks-within, conflicts-out}
+use Rattle.downloads.proofs.Lowest.{lowest_is, lowest_none}
+use Rattle.downloads.proofs.Framing.{framed, begins, frame_low, blocks_within, conflicts_out}
 use Rattle.downloads.proofs.frames.first_conflict.Goals as goal
 
 pub conflicts_at-requires : goal.conflicts_at-requires
@@ -28,7 +28,7 @@ module _ (n f i : ℕ) (copies : Copies) (frame : List ℕ) (pos : 0 < n) (seen 
   pub none_before : (k : ℕ) → k < f + i → conflicts n copies f frame k ≡ false
   none_before k h =
       elim (cases_lt k f) [
-        | inl low ↦ conflicts-out n copies f frame k pos (inl low)
+        | inl low ↦ conflicts_out n copies f frame k pos (inl low)
         | inr high ↦ let e : f + (k - f) ≡ k = omega arith in ap (conflicts n copies f frame) (sym e) ∙ seen (k - f) (omega arith)
       ]
 
@@ -46,8 +46,8 @@ returns-then-conflicts_at c =
     let frame = c.args.frame.now in
     let copies = copies_in n c.args.body.now (marks_in c.args.arrivals.now) in
     let fr = framed n (length c.args.body.now) f (length frame) c.requires.frame in
-    let room = blocks-within n (length c.args.body.now) f (length frame) c.requires.small.0 fr.within fr.some in
-    sym (lowest-is (conflicts n copies f frame) (block_count n (length c.args.body.now)) 0 (f + c.loop-i.i) (omega arith) (omega (arith, c.loop-i-test.true))
+    let room = blocks_within n (length c.args.body.now) f (length frame) c.requires.small.0 fr.within fr.some in
+    sym (lowest_is (conflicts n copies f frame) (block_count n (length c.args.body.now)) 0 (f + c.loop-i.i) (omega arith) (omega (arith, c.loop-i-test.true))
     (sym c.if-conflicts_at.ensures) (λ k x y. none_before n f c.loop-i.i copies frame c.requires.small.0 c.loop-i.invariant k y))
 
 pub returns : goal.returns
@@ -59,5 +59,5 @@ returns c =
     sym (lowest_none (conflicts n copies f frame) (block_count n (length c.args.body.now)) 0
     (λ k x y. elim (cases_lt k (f + c.loop-i.i)) [
       | inl low ↦ none_before n f c.loop-i.i copies frame c.requires.small.0 c.loop-i.invariant k low
-      | inr high ↦ conflicts-out n copies f frame k c.requires.small.0 (inr (omega (arith, c.loop-i-test.false)))
+      | inr high ↦ conflicts_out n copies f frame k c.requires.small.0 (inr (omega (arith, c.loop-i-test.false)))
     ]))

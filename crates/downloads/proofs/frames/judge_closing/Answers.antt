@@ -8,7 +8,7 @@ use Rattle.downloads.specs.Marks.{marks_in, lowest, missing_from}
 use Rattle.downloads.specs.Copies.{copies_in, refused_at}
 use Rattle.downloads.specs.Frames.{block_of, blocks_of, good_store, close_answer}
 use Rattle.downloads.proofs.Marks.{lacks_are}
-use Rattle.downloads.proofs.Answered.{told, store_parts, close_unsized, close-found}
+use Rattle.downloads.proofs.Answered.{told, store_parts, close_unsized, close_found}
 use Rattle.downloads.proofs.frames.judge_closing.Goals as goal
 
 pub returns-then-not-good_store : goal.returns-then-not-good_store
@@ -25,7 +25,7 @@ module _ (s : Described) (body : List ℕ) (marks : List Arrival) (m : ℕ) (o :
   as_found =
       let right : true ≡ good_store s (length body) (length marks) = store ∙ ap (good_store s (length body)) counted in
       let many : m - 0 ≡ blocks_of s = omega (arith, counted, (store_parts s (length body) (length marks) (sym right)).1) in
-      close-found s (length body) (length marks) (copies_in (block_of s) body marks) 0 body o right
+      close_found s (length body) (length marks) (copies_in (block_of s) body marks) 0 body o right
       (found ∙ ap₂ (λ (test : ℕ → Bool) (k : ℕ). lowest test 0 k) (sym (lacks_are (block_of s) body marks)) many)
 
 pub returns-in-Some : goal.returns-in-Some

@@ -8,7 +8,7 @@ use Rattle.downloads.specs.Marks.{marks_in, lowest}
 use Rattle.downloads.specs.declared.arrivals.Arrival.{Arrival}
 use Rattle.downloads.specs.Copies.{copies_in, refused_at}
 use Rattle.downloads.specs.Frames.{block_of, good_store, good_frame, conflicts, frame_answer}
-use Rattle.downloads.proofs.Answered.{told, store_parts, frame_unsized, frame-bad, frame_found}
+use Rattle.downloads.proofs.Answered.{told, store_parts, frame_unsized, frame_bad, frame_found}
 use Rattle.downloads.proofs.frames.judge_frame.Goals as goal
 
 pub returns-then-not-good_store : goal.returns-then-not-good_store
@@ -25,7 +25,7 @@ returns-then-not-good_frame c =
     let body = c.args.body.now in
     let marks = marks_in c.args.arrivals.now in
     told c.new-then-not-good_frame.result BadBlock c.args.first Download c.new-then-not-good_frame.ensures
-    ∙ frame-bad s (length body) (length marks) (copies_in (block_of s) body marks) c.args.first c.args.frame.now (c.if-not-good_store.ensures ∙ ap (good_store s (length body)) c.blocks-2.ensures)
+    ∙ frame_bad s (length body) (length marks) (copies_in (block_of s) body marks) c.args.first c.args.frame.now (c.if-not-good_store.ensures ∙ ap (good_store s (length body)) c.blocks-2.ensures)
     (c.if-not-good_frame.ensures ∙ ap (λ (n : ℕ). good_frame n s.length c.args.first (length c.args.frame.now)) c.block_length-n.ensures)
 
 -- what was found, as the answer has it

@@ -8,7 +8,7 @@ use Rattle.downloads.specs.Marks.{marks_in}
 use Rattle.downloads.specs.Copies.{copies_in}
 use Rattle.downloads.specs.Frames.{block_of}
 use Rattle.downloads.proofs.Answered.{told}
-use Rattle.downloads.proofs.Given.{parts_are, give_unsized, give-refused, given_is}
+use Rattle.downloads.proofs.Given.{parts_are, give_unsized, give_refused, given_is}
 use Rattle.downloads.proofs.giving.give.Goals as goal
 
 pub returns-then-not-good_parts : goal.returns-then-not-good_parts
@@ -30,7 +30,7 @@ returns-in_err-judge_block g c =
     let marks = marks_in c.args.arrivals.now in
     let out = c.args.out.now in
     let why = code_of c.in_err-judge_block.field-0.0 in
-    let w = give-refused map s (length body) (length marks) (copies_in (block_of s) body marks) c.args.i out why
+    let w = give_refused map s (length body) (length marks) (copies_in (block_of s) body marks) c.args.i out why
     (c.if-not-good_parts.ensures ∙ parts_are s c.block_length-n.result map.size (length body) c.blocks-2.result (length marks) (length out) c.block_length.result (block_of s) c.block_length-n.ensures.value c.blocks-2.ensures c.block_length.ensures)
     c.in_err-judge_block.ensures in
     let p = err_from_is_err_and c.from_residual.result c.from_residual.ensures.1 in

@@ -1,12 +1,12 @@
 use Rattle.std.proofs.Common.{◌≡◌, ℕ, ◌+◌, ◌-◌, ◌*◌, ◌≤◌, min, List, length, take, drop, replicate, sym, ap, ◌∙◌, subst, ap₂, arith, length-drop, length-take}
-use Rattle.blocks.proofs.Words.{bytes-from}
+use Rattle.blocks.proofs.Words.{bytes_from}
 use Rattle.modes.specs.Modes.{block_count, joined}
 use Rattle.modes.specs.Calls.{plain_of, front}
 use Rattle.sections.specs.Meaning.{meaning_of}
 use Rattle.downloads.specs.Frames.{block_of, blocks_of}
 use Rattle.downloads.specs.Pages.{first_in, count_in}
 use Rattle.downloads.proofs.Answered.{image_small}
-use Rattle.downloads.proofs.Prepared.{run_length, fill_rest, page_small, page_ends, page-fits, page-holds, first-is, first_low, count-is, begin_is, first_small}
+use Rattle.downloads.proofs.Prepared.{run_length, fill_rest, page_small, page_ends, page_fits, page_holds, first_is, first_low, count_is, begin_is, first_small}
 use Rattle.downloads.proofs.pages.prepare.Goals as goal
 
 pub overflow_sub-body-2 : goal.overflow_sub-body-2
@@ -26,12 +26,12 @@ decipher_blocks-requires g c =
     let j = c.args.j in
     let size = c.block_length-n.ensures.value ∙ c.requires.parts.0 in
     let small = image_small s.length c.args.section.now.allowed in
-    let first = first-is s c.block_length-n.result (length c.args.body.now) P j size c.requires.parts.1 small c.requires.page c.requires.inside in
-    let count : c.min-count.result ≡ count_in P s j = c.min-count.ensures ∙ count-is s c.block_length-n.result (length c.args.body.now) P j size c.requires.parts.1 small c.requires.page c.requires.inside in
+    let first = first_is s c.block_length-n.result (length c.args.body.now) P j size c.requires.parts.1 small c.requires.page c.requires.inside in
+    let count : c.min-count.result ≡ count_in P s j = c.min-count.ensures ∙ count_is s c.block_length-n.result (length c.args.body.now) P j size c.requires.parts.1 small c.requires.page c.requires.inside in
     record {
       parts = c.requires.parts;
       blocks = subst (λ (k : ℕ). k ≤ blocks_of s) (ap₂ (λ (a b : ℕ). a + b) (sym first) (sym count)) (page_ends s P j c.requires.page c.requires.inside);
-      room = (subst (λ (k : ℕ). block_of s * k ≤ P) (sym count) (page-fits s P j c.requires.page c.requires.inside), page_small s P j c.requires.page);
+      room = (subst (λ (k : ℕ). block_of s * k ≤ P) (sym count) (page_fits s P j c.requires.page c.requires.inside), page_small s P j c.requires.page);
     }
 
 pub overflow_mul-n : goal.overflow_mul-n
@@ -59,20 +59,20 @@ returns g c =
     let long = c.requires.parts.1 in
     let small = image_small s.length c.args.section.now.allowed in
     let plain : ℕ → List ℕ = plain_of map s.mode s.sync body in
-    let first = first-is s n (length body) P j size long small c.requires.page c.requires.inside in
-    let count : c.min-count.result ≡ count_in P s j = c.min-count.ensures ∙ count-is s n (length body) P j size long small c.requires.page c.requires.inside in
+    let first = first_is s n (length body) P j size long small c.requires.page c.requires.inside in
+    let count : c.min-count.result ≡ count_in P s j = c.min-count.ensures ∙ count_is s n (length body) P j size long small c.requires.page c.requires.inside in
     let J : List ℕ = joined plain (first_in P s j) (count_in P s j) in
     let page = c.decipher_blocks.new.page in
     let made : page ≡ front J was = c.decipher_blocks.ensures ∙ ap₂ (λ (a b : ℕ). front (joined plain a b) was) first count in
     let ends : first_in P s j + count_in P s j ≤ block_count map.size (length body) =
     subst (λ (k : ℕ). first_in P s j + count_in P s j ≤ k) (ap₂ (λ (a b : ℕ). block_count a b) (sym c.requires.parts.0) (sym long)) (page_ends s P j c.requires.page c.requires.inside) in
     let run : length J ≡ min (block_of s * count_in P s j) (s.length - block_of s * first_in P s j) =
-    run_length map s body c.block_length-n.ensures.lawful c.requires.parts.0 long (bytes-from body (λ i. omega (arith, c.type_inv.body i))) c.args.section.now.agreed c.args.section.now.whole (first_in P s j) (count_in P s j) ends
+    run_length map s body c.block_length-n.ensures.lawful c.requires.parts.0 long (bytes_from body (λ i. omega (arith, c.type_inv.body i))) c.args.section.now.agreed c.args.section.now.whole (first_in P s j) (count_in P s j) ends
     ∙ ap₂ (λ (a b : ℕ). min (a * count_in P s j) (b - a * first_in P s j)) c.requires.parts.0 long in
     let fits : length page ≡ P = c.decipher_blocks.auto.page in
     let end : c.min-end.result ≡ length J =
     c.min-end.ensures
-    ∙ (ap₂ (λ (a b : ℕ). min a b) fits (ap₂ (λ (a b : ℕ). a - b) long (ap₂ (λ (a b : ℕ). a * b) size first)) ∙ (sym (page-holds s P j c.requires.page c.requires.inside) ∙ sym run)) in
+    ∙ (ap₂ (λ (a b : ℕ). min a b) fits (ap₂ (λ (a b : ℕ). a - b) long (ap₂ (λ (a b : ℕ). a * b) size first)) ∙ (sym (page_holds s P j c.requires.page c.requires.inside) ∙ sym run)) in
     let most : c.min-end.result ≤ P = omega (arith, c.min-end.ensures, fits) in
     let rest : length (take (length page - c.min-end.result) (drop c.min-end.result page)) ≡ length page - c.min-end.result = simp (length-take, length-drop) (omega arith) in
     fill_rest J was page c.fill.new.self c.min-end.result c.args.fill made (sym end) most (c.fill.ensures.after (λ y e. e) ∙ ap (λ (k : ℕ). replicate k c.args.fill) rest)

@@ -6,8 +6,8 @@ use Rattle.sections.specs.Images.{pages_for}
 use Rattle.sections.specs.Meaning.{meaning_of}
 use Rattle.targets.specs.State.{page_of}
 use Rattle.downloads.specs.Verdicts.{image_on}
-use Rattle.downloads.proofs.Answered.{image-some}
-use Rattle.downloads.proofs.Summed.{Summed, summed_first, summed_next, summed_all, last-read, read_is, value-is}
+use Rattle.downloads.proofs.Answered.{image_some}
+use Rattle.downloads.proofs.Summed.{Summed, summed_first, summed_next, summed_all, last_read, read_is, value_is}
 use Rattle.downloads.proofs.verifying.value_on.Goals as goal
 
 pub loop-k-init : goal.loop-k-init
@@ -46,7 +46,7 @@ returns g c =
     let end : (s.length + length c.args.page.now - 1) / length c.args.page.now ≡ pages_for t.page_length s.length = ap (λ (n : ℕ). (s.length + n - 1) / n) c.requires.room in
     let all : c.loop-k.k ≡ pages_for t.page_length s.length = omega (arith, end, c.loop-k-test.false, c.loop-k.auto.k-end) in
     record {
-      value = value-is (rows_of c.args.table.now) c.args.tag_key.now s (image_on s t) (state_in c.loop-k.chain) _ c.value.result
+      value = value_is (rows_of c.args.table.now) c.args.tag_key.now s (image_on s t) (state_in c.loop-k.chain) _ c.value.result
           (summed_all s t E c.requires.formed c.requires.there c.loop-k.k c.loop-k.left (state_in c.loop-k.chain) c.loop-k.page all was) c.tag_length.ensures c.value.ensures;
-      page = last-read s t E c.requires.formed c.requires.there c.loop-k.k c.loop-k.left (state_in c.loop-k.chain) c.loop-k.page all (image-some s.length c.args.section.now.allowed) was;
+      page = last_read s t E c.requires.formed c.requires.there c.loop-k.k c.loop-k.left (state_in c.loop-k.chain) c.loop-k.page all (image_some s.length c.args.section.now.allowed) was;
     }

@@ -1,7 +1,7 @@
 use Rattle.std.proofs.Common.{◌≡◌, ℕ, take, drop, ap, ◌∙◌, ap₂, arith, length-drop}
 use Rattle.std.proofs.lemmas.List.{take_all}
 use Rattle.blocks.specs.Bytes.{word}
-use Rattle.blocks.proofs.Words.{word_at, bytes-from}
+use Rattle.blocks.proofs.Words.{word_at, bytes_from}
 use Rattle.gost.specs.declared.rounds.Registers.{Registers}
 use Rattle.gost.specs.Cipher.{registers}
 use Rattle.gost.proofs.cipher.read.Goals as goal
@@ -14,4 +14,4 @@ returns c =
     let low : c.from_le_bytes.result ≡ word (take 4 block) = c.from_le_bytes.ensures ∙ word_at block 0 (omega arith) in
     let high : c.from_le_bytes-2.result ≡ word (drop 4 block) =
     c.from_le_bytes-2.ensures ∙ (word_at block 4 (omega arith) ∙ ap word (take_all 4 (drop 4 block) (simp length-drop (omega arith)))) in
-    record { value = ap₂ made low high; bytes = bytes-from block (λ i. omega (arith, c.type_inv.block i)) }
+    record { value = ap₂ made low high; bytes = bytes_from block (λ i. omega (arith, c.type_inv.block i)) }

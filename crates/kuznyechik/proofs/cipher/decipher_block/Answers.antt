@@ -1,7 +1,7 @@
 use Rattle.std.proofs.Common.{◌≡◌, ℕ, ◌+◌, ◌-◌, [], get_or, drop, sym, ap, ◌∙◌, arith}
 use Rattle.kuznyechik.specs.Steps.{X, XS⁻¹L⁻¹}
 use Rattle.kuznyechik.specs.Cipher.{deciphered}
-use Rattle.kuznyechik.proofs.Rounds.{deciphered_more, deciphered-last}
+use Rattle.kuznyechik.proofs.Rounds.{deciphered_more, deciphered_last}
 use Rattle.kuznyechik.proofs.cipher.decipher_block.Goals as goal
 
 pub loop-i-init : goal.loop-i-init
@@ -21,4 +21,4 @@ returns c =
     let keys = c.args.keys.now in
     let block = c.args.block.now in
     let n : c.loop-i.i ≡ 0 = omega arith in
-    c.loop-i.invariant block (c.xor_into.ensures ∙ sym (deciphered-last keys 9 block (omega arith))) ∙ ap (λ (k : ℕ). deciphered (drop k keys) block) n
+    c.loop-i.invariant block (c.xor_into.ensures ∙ sym (deciphered_last keys 9 block (omega arith))) ∙ ap (λ (k : ℕ). deciphered (drop k keys) block) n

@@ -1,11 +1,11 @@
 use Rattle.std.proofs.Common.{◌≡◌, ◌+◌, ◌-◌, sym, ◌∙◌, arith}
 use lib.Bits.{xor_zero_l, xor_zero_r}
 use Rattle.kuznyechik.specs.Field.{bits_times, product}
-use Rattle.kuznyechik.proofs.Products.{bit-times_lt, times_x_lt, bits_times_more}
+use Rattle.kuznyechik.proofs.Products.{bit_times_lt, times_x_lt, bits_times_more}
 use Rattle.kuznyechik.proofs.field.multiply.Goals as goal
 
 pub overflow_mul-sum : goal.overflow_mul-sum
-overflow_mul-sum c = omega (arith, bit-times_lt c.loop-i.bits c.loop-i.power c.loop-i.invariant.1)
+overflow_mul-sum c = omega (arith, bit_times_lt c.loop-i.bits c.loop-i.power c.loop-i.invariant.1)
 
 pub loop-i-init : goal.loop-i-init
 loop-i-init c = (xor_zero_l (bits_times 8 c.args.factor c.args.byte), omega arith)

@@ -1,7 +1,7 @@
 use Rattle.std.proofs.Common.{length, drop, ◌∙◌, arith, length-drop}
 use Rattle.std.proofs.lemmas.List.{take_all, length-set}
 use Rattle.std.proofs.lemmas.Bool.{eq-eqb}
-use Rattle.kuznyechik.proofs.Pairs.{filled-first, filled_more, filled-all}
+use Rattle.kuznyechik.proofs.Pairs.{filled_first, filled_more, filled_all}
 use Rattle.kuznyechik.proofs.key.spread_key.Goals as goal
 
 pub loop-i-init : goal.loop-i-init
@@ -11,7 +11,7 @@ loop-i-init c =
     let a1 = c.copy_from_slice.new.self in
     let a0 = c.copy_from_slice-2.new.self in
     let rest = take_all 16 (drop 16 key) (simp length-drop (omega arith)) in (
-      filled-first keys key a1 a0 (omega arith) c.copy_from_slice.ensures.after (c.copy_from_slice-2.ensures.after ∙ rest),
+      filled_first keys key a1 a0 (omega arith) c.copy_from_slice.ensures.after (c.copy_from_slice-2.ensures.after ∙ rest),
       simp length-set (omega arith),
     )
 
@@ -27,6 +27,6 @@ loop-i-preserved c =
 
 pub returns : goal.returns
 returns c =
-    let all = filled-all c.loop-i.keys c.loop-i.i (c.loop-i.a1, c.loop-i.a0) c.loop-i.invariant.1 (omega arith) ∙ c.loop-i.invariant.0 in
+    let all = filled_all c.loop-i.keys c.loop-i.i (c.loop-i.a1, c.loop-i.a0) c.loop-i.invariant.1 (omega arith) ∙ c.loop-i.invariant.0 in
     let long = eq-eqb (length c.args.key.now) 32 c.if-key-ne32.false in
     record { answer = rw long; keys = all ∙ rw long }

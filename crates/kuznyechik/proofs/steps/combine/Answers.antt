@@ -1,7 +1,7 @@
 use Rattle.std.proofs.Common.{ℕ, ◌+◌, drop, sym, ap, ◌∙◌, arith}
 use lib.Bits.{bit_xor, xor_zero_l}
 use Rattle.kuznyechik.specs.Steps.{factors, combined, ℓ}
-use Rattle.kuznyechik.proofs.Turns.{combined_more, combined-all}
+use Rattle.kuznyechik.proofs.Turns.{combined_more, combined_all}
 use Rattle.kuznyechik.proofs.steps.combine.Goals as goal
 
 pub loop-i-init : goal.loop-i-init
@@ -17,4 +17,4 @@ loop-i-preserved c =
 
 pub returns : goal.returns
 unfolding factors ℓ
-returns c = sym (combined-all c.loop-i.sum c.loop-i.i factors c.args.block.now (omega arith)) ∙ c.loop-i.invariant
+returns c = sym (combined_all c.loop-i.sum c.loop-i.i factors c.args.block.now (omega arith)) ∙ c.loop-i.invariant

@@ -1,7 +1,7 @@
 use Rattle.std.proofs.Common.{◌∙◌, arith}
 use Rattle.kuznyechik.specs.Pi.{pi}
 use Rattle.kuznyechik.specs.Steps.{S}
-use Rattle.kuznyechik.proofs.Turns.{over_more, over-all}
+use Rattle.kuznyechik.proofs.Turns.{over_more, over_all}
 use Rattle.kuznyechik.proofs.steps.substitute.Goals as goal
 
 pub loop-i-preserved : goal.loop-i-preserved
@@ -10,4 +10,4 @@ loop-i-preserved c =
 
 pub returns : goal.returns
 unfolding S
-returns c = c.loop-i.invariant ∙ over-all pi c.args.block.now c.loop-i.i (omega arith)
+returns c = c.loop-i.invariant ∙ over_all pi c.args.block.now c.loop-i.i (omega arith)

@@ -1,7 +1,7 @@
 use Rattle.std.proofs.Common.{◌∙◌, arith}
 use Rattle.kuznyechik.specs.Pi.{pi⁻¹}
 use Rattle.kuznyechik.specs.Steps.{S⁻¹}
-use Rattle.kuznyechik.proofs.Turns.{over_more, over-all}
+use Rattle.kuznyechik.proofs.Turns.{over_more, over_all}
 use Rattle.kuznyechik.proofs.steps.unsubstitute.Goals as goal
 
 pub loop-i-preserved : goal.loop-i-preserved
@@ -10,4 +10,4 @@ loop-i-preserved c =
 
 pub returns : goal.returns
 unfolding S⁻¹
-returns c = c.loop-i.invariant ∙ over-all pi⁻¹ c.args.block.now c.loop-i.i (omega arith)
+returns c = c.loop-i.invariant ∙ over_all pi⁻¹ c.args.block.now c.loop-i.i (omega arith)

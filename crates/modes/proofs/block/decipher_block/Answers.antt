@@ -4,7 +4,7 @@ use Rattle.modes.specs.declared.mode.Mode.{Mode}
 use Rattle.modes.specs.declared.mode.Sync.{Sync}
 use Rattle.modes.specs.Calls.{mode_answer, plain_of}
 use Rattle.modes.proofs.Undoing.{some_size}
-use Rattle.modes.proofs.Plain.{wrong-buffer, no_block_lem, given, size_le, pad_long, front-is, reach-judged}
+use Rattle.modes.proofs.Plain.{wrong_buffer, no_block_lem, given, size_le, pad_long, front_is, reach_judged}
 use Rattle.modes.proofs.Joined.{length-block}
 use Rattle.std.proofs.lemmas.List.{length-take-le}
 use Rattle.blocks.specs.Bytes.{block}
@@ -13,11 +13,11 @@ use Rattle.modes.proofs.block.decipher_block.Goals as goal
 pub returns-then-out-n : goal.returns-then-out-n
 returns-then-out-n g c =
     let map = g.C.BlockCipher.map c.args.cipher.now in
-    let w = wrong-buffer map c.args.mode c.args.sync c.args.body.now c.args.out.now c.args.i (λ e. c.if-out-n.true (e ∙ sym c.block_length-n.ensures.value)) in
+    let w = wrong_buffer map c.args.mode c.args.sync c.args.body.now c.args.out.now c.args.i (λ e. c.if-out-n.true (e ∙ sym c.block_length-n.ensures.value)) in
     record {
       answer = ap (λ e. Err (code_of e)) c.new.ensures ∙ w.0;
       out = w.1;
-      reach = reach-judged map c.args.mode c.args.sync (length c.args.body.now) c.block_length-n.ensures.lawful;
+      reach = reach_judged map c.args.mode c.args.sync (length c.args.body.now) c.block_length-n.ensures.lawful;
     }
 
 -- the mode was accepted
@@ -35,7 +35,7 @@ returns-then-at-body g c =
     record {
       answer = ap (λ e. Err (code_of e)) c.new-then-at-body.ensures ∙ w.0;
       out = w.1;
-      reach = reach-judged map c.args.mode c.args.sync (length body) c.block_length-n.ensures.lawful;
+      reach = reach_judged map c.args.mode c.args.sync (length body) c.block_length-n.ensures.lawful;
     }
 
 pub decipher_into-requires : goal.decipher_into-requires
@@ -66,9 +66,9 @@ returns g c =
     let inside : map.size * c.args.i < length body = subst (λ (m : ℕ). m * c.args.i < length body) size c.if-at-body.false in
     let count : c.min-count.result ≡ length (block map.size c.args.i body) = c.min-count.ensures ∙ (sym (length-block n c.args.i body) ∙ ap (λ (m : ℕ). length (block m c.args.i body)) size) in
     let w = given map c.args.mode c.args.sync body out c.args.i (c.if-out-n.false ∙ size) (some_size map c.block_length-n.ensures.lawful) ok inside
-    (c.decipher_into.new.part ++ drop (c.min-count.result - 0) out) (front-is (plain_of map c.args.mode c.args.sync body c.args.i) c.decipher_into.new.part out c.min-count.result c.decipher_into.ensures c.decipher_into.auto.part (omega (arith, c.min-count.ensures, c.if-out-n.false))) in
+    (c.decipher_into.new.part ++ drop (c.min-count.result - 0) out) (front_is (plain_of map c.args.mode c.args.sync body c.args.i) c.decipher_into.new.part out c.min-count.result c.decipher_into.ensures c.decipher_into.auto.part (omega (arith, c.min-count.ensures, c.if-out-n.false))) in
     record {
       answer = ap (λ (k : ℕ). Ok k) count ∙ w.0;
       out = w.1;
-      reach = reach-judged map c.args.mode c.args.sync (length body) c.block_length-n.ensures.lawful;
+      reach = reach_judged map c.args.mode c.args.sync (length body) c.block_length-n.ensures.lawful;
     }

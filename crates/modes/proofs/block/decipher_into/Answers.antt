@@ -5,9 +5,9 @@ use Rattle.modes.specs.Calls.{sync_bytes}
 use Rattle.modes.specs.Modes.{before}
 use Rattle.modes.specs.Steps.{plain_step, Fits, FromSync}
 use Rattle.modes.proofs.Joined.{length-block}
-use Rattle.modes.proofs.Judged.{judged-agrees, agrees-eight, sync-block}
+use Rattle.modes.proofs.Judged.{judged-agrees, agrees_eight, sync_block}
 use Rattle.modes.proofs.Undoing.{some_size}
-use Rattle.modes.proofs.Plain.{plain_step_lem, fits-judged, cut-is}
+use Rattle.modes.proofs.Plain.{plain_step_lem, fits-judged, cut_is}
 use Rattle.modes.proofs.block.decipher_into.Goals as goal
 
 pub slice_bounds-copy_from_slice-end : goal.slice_bounds-copy_from_slice-end
@@ -21,10 +21,10 @@ first_counters-from-requires g c =
     let map = g.C.BlockCipher.map c.args.cipher.now in
     let kept : length c.write_sync.new.pad ≡ map.size = c.write_sync.auto.pad ∙ c.requires.size in
     let e : c.write_sync.new.pad ≡ sync_bytes map.size c.args.sync = c.write_sync.ensures ∙ ap (λ (m : ℕ). sync_bytes m c.args.sync) c.requires.size in
-    let b = subst (Block map.size) (sym e) (sync-block map.size c.args.sync c.requires.lawful.sized) in
+    let b = subst (Block map.size) (sym e) (sync_block map.size c.args.sync c.requires.lawful.sized) in
     record {
       size = kept;
-      eight = λ q. kept ∙ agrees-eight map.size c.args.mode c.args.sync (judged-agrees map.size c.args.mode c.args.sync (length c.args.body.now) c.requires.judged) q;
+      eight = λ q. kept ∙ agrees_eight map.size c.args.mode c.args.sync (judged-agrees map.size c.args.mode c.args.sync (length c.args.body.now) c.requires.judged) q;
       bytes = ((refl, b.1), c.requires.lawful);
     }
 
@@ -56,7 +56,7 @@ returns g c =
     let pad : c.args.mode ≡ Feedback → c.feed.new.pad ≡ before S (λ k. block map.size k body) i
     = λ q. c.feed.ensures q ∙ ap₂ (λ (p : List ℕ) (m : ℕ). before p (λ k. block m k body) i) (c.first_counters-from.ensures.pad q ∙ sync-is) long in
     let part : c.copy_from_slice.new.self ≡ block map.size i body
-    = c.copy_from_slice.ensures.after ∙ (cut-is n i (length c.args.part.now) body c.requires.part ∙ ap (λ (m : ℕ). block m i body) c.requires.size) in
+    = c.copy_from_slice.ensures.after ∙ (cut_is n i (length c.args.part.now) body c.requires.part ∙ ap (λ (m : ℕ). block m i body) c.requires.size) in
     c.decipher_one.ensures
     ∙ (ap (plain_step c.args.mode map c.first_counters-from.result.third c.first_counters-from.result.fourth i c.feed.new.pad) part
     ∙ plain_step_lem c.args.mode map S c.feed.new.pad (λ k. block map.size k body) c.first_counters-from.result.third c.first_counters-from.result.fourth i from pad)

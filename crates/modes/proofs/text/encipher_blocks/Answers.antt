@@ -1,7 +1,7 @@
 use Rattle.std.proofs.Common.{◌≡◌, ℕ, ◌/◌, ◌%◌, [], length, sym, refl, ◌∙◌, subst, arith}
 use Rattle.modes.specs.Modes.{Chaining}
 use Rattle.modes.specs.Steps.{Kept}
-use Rattle.modes.proofs.Texts.{Begun, Held, sound, room, front-room, turn, last, all}
+use Rattle.modes.proofs.Texts.{Begun, Held, sound, room, front_room, turn, last, all}
 use Rattle.modes.proofs.text.encipher_blocks.Goals as goal
 
 pub loop-i-preserved : goal.loop-i-preserved
@@ -33,7 +33,7 @@ returns-then-text-n-ne0 g c =
     let inv = subst (λ (i : ℕ). Held w image n i c.loop-i.text c.loop-i.pad) ends (c.loop-i.invariant.1 sync b) in
     last w image c.requires.bytes (sound w (length image) c.requires.lawful c.requires.pad c.requires.eight c.requires.whole) n (sym c.requires.pad.0)
     (length image / n) c.first_counters-from.result.third c.first_counters-from.result.fourth c.loop-i.text c.loop-i.pad c.encipher_one-then-text-n-ne0.new.block
-    (front-room n (length image / n) (length image) refl) b.from inv.0 inv.1 refl (subst (λ (m : ℕ). m % n ≡ 0 → ⊥) c.loop-i.auto.text c.if-text-n-ne0.true) c.loop-i.auto.text c.encipher_one-then-text-n-ne0.ensures.block
+    (front_room n (length image / n) (length image) refl) b.from inv.0 inv.1 refl (subst (λ (m : ℕ). m % n ≡ 0 → ⊥) c.loop-i.auto.text c.if-text-n-ne0.true) c.loop-i.auto.text c.encipher_one-then-text-n-ne0.ensures.block
 
 pub returns-else-text-n-ne0 : goal.returns-else-text-n-ne0
 returns-else-text-n-ne0 g c =
@@ -48,4 +48,4 @@ returns-else-text-n-ne0 g c =
     let inv = c.loop-i.invariant.1 sync b in
     all w image c.requires.bytes (sound w (length image) c.requires.lawful c.requires.pad c.requires.eight c.requires.whole) n (sym c.requires.pad.0)
     c.loop-i.i c.first_counters-from.result.third c.first_counters-from.result.fourth c.loop-i.text c.loop-i.pad []
-    (front-room n c.loop-i.i (length image) ends) b.from inv.0 inv.1 ends (subst (λ (m : ℕ). m % n ≡ 0) c.loop-i.auto.text c.if-text-n-ne0.false)
+    (front_room n c.loop-i.i (length image) ends) b.from inv.0 inv.1 ends (subst (λ (m : ℕ). m % n ≡ 0) c.loop-i.auto.text c.if-text-n-ne0.false)

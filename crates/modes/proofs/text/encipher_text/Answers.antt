@@ -2,7 +2,7 @@ use Rattle.std.proofs.Common.{◌≡◌, ℕ, length, Ok, Result, ap, ◌∙◌,
 use Rattle.refusals.specs.Codes.{Code}
 use Rattle.modes.specs.Modes.{enciphered}
 use Rattle.modes.specs.Calls.{chaining, mode_answer, unless}
-use Rattle.modes.proofs.Judged.{judged-sound}
+use Rattle.modes.proofs.Judged.{judged_sound}
 use Rattle.modes.proofs.Undoing.{undo}
 use Rattle.modes.proofs.text.encipher_text.Goals as goal
 
@@ -15,5 +15,5 @@ returns g c =
     record {
       answer = ok;
       text = c.encipher_judged.ensures ∙ ap (λ (r : Result (Unit {0}) Code). unless r text (enciphered (chaining map c.args.mode c.args.sync) text)) ok;
-      undo = λ h. undo (chaining map c.args.mode c.args.sync) (length text) (judged-sound map c.args.mode c.args.sync (length text) c.block_length-n.ensures.lawful h);
+      undo = λ h. undo (chaining map c.args.mode c.args.sync) (length text) (judged_sound map c.args.mode c.args.sync (length text) c.block_length-n.ensures.lawful h);
     }

@@ -4,7 +4,7 @@ use Rattle.std.proofs.lemmas.Result.{err_from_is_err_and}
 use Rattle.std.specs.declared.alloc.Global.{Global}
 use Rattle.packing.specs.Plans.{work_of}
 use Rattle.packing.specs.Sealing.{Means}
-use Rattle.packing.proofs.Filled.{Held, held_first, held_more, held_fault, held-last, next_work, no_more}
+use Rattle.packing.proofs.Filled.{Held, held_first, held_more, held_fault, held_last, next_work, no_more}
 use Rattle.packing.proofs.filling.fill.Goals as goal
 
 pub loop-i-init : goal.loop-i-init
@@ -44,5 +44,5 @@ returns c =
     let xs = c.args.planned.now in
     let i : ℕ = c.loop-i.i in
     let whole : vec_items c.extend_from_slice-2.new.self ≡ vec_items c.loop-i.file ++ c.as_slice-2.result.now = c.in_ok-extend_from_slice-3.ensures.items in
-    held-last m (map work_of xs) (drop i (map work_of xs)) (i + 1) (vec_items c.loop-i.file) (vec_items c.loop-i.bodies) (vec_items c.extend_from_slice-2.new.self)
+    held_last m (map work_of xs) (drop i (map work_of xs)) (i + 1) (vec_items c.loop-i.file) (vec_items c.loop-i.bodies) (vec_items c.extend_from_slice-2.new.self)
     c.loop-i.invariant (no_more xs i (omega arith)) (whole ∙ ap (λ (x : List ℕ). vec_items c.loop-i.file ++ x) c.as_slice-2.ensures.value)

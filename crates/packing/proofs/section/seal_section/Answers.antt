@@ -13,8 +13,8 @@ returns-in-Ok c =
     let image = c.judged_part-image.result.now in
     let given : Given (work_of c.args.planned.now) image c.entry_of-entry.result c.as_mut_slice.result.now
     = record {
-      image-is = c.judged_part-image.ensures ∙ ap (take 16385) c.as_slice.ensures.value;
-      entry-is = c.entry_of-entry.ensures.value;
+      image_is = c.judged_part-image.ensures ∙ ap (take 16385) c.as_slice.ensures.value;
+      entry_is = c.entry_of-entry.ensures.value;
       body_is = c.as_mut_slice.ensures.value ∙ c.in_ok-body.ensures.items;
       fits = c.entry_of-entry.ensures.fits;
     } in
@@ -31,8 +31,8 @@ returns-in-Err c =
     let image = c.judged_part-image.result.now in
     let given : Given (work_of c.args.planned.now) image c.entry_of-entry.result c.as_mut_slice.result.now
     = record {
-      image-is = c.judged_part-image.ensures ∙ ap (take 16385) c.as_slice.ensures.value;
-      entry-is = c.entry_of-entry.ensures.value;
+      image_is = c.judged_part-image.ensures ∙ ap (take 16385) c.as_slice.ensures.value;
+      entry_is = c.entry_of-entry.ensures.value;
       body_is = c.as_mut_slice.ensures.value ∙ c.in_ok-body.ensures.items;
       fits = c.entry_of-entry.ensures.fits;
     } in

@@ -1,6 +1,6 @@
 use Rattle.std.proofs.Common.{sym, ◌∙◌}
 use Rattle.refusals.specs.declared.Reason.TheVariants.{BadField, BadLength}
-use Rattle.sections.proofs.Judged.{no_cipher, no_mode, as_named, bad_fields, bad-length, good, told}
+use Rattle.sections.proofs.Judged.{no_cipher, no_mode, as_named, bad_fields, bad_length, good, told}
 use Rattle.sections.proofs.entry.judge_fields.Goals as goal
 
 pub returns-in_default : goal.returns-in_default
@@ -21,7 +21,7 @@ returns-then-not-good_fields c =
 pub returns-then-not-good_length : goal.returns-then-not-good_length
 returns-then-not-good_length c =
     let e = as_named c.args.place c.args.offset c.args.f c.in-Some.cipher c.in-Some-mode_named.mode c.in-Some.ensures c.in-Some-mode_named.ensures in
-    let d = bad-length c.args.place c.args.offset c.args.f c.in-Some.cipher c.in-Some-mode_named.mode c.if-not-good_fields.ensures c.if-not-good_length.ensures in
+    let d = bad_length c.args.place c.args.offset c.args.f c.in-Some.cipher c.in-Some-mode_named.mode c.if-not-good_fields.ensures c.if-not-good_length.ensures in
     told c.new.result BadLength c.args.place c.new.ensures ∙ sym (e ∙ d)
 
 pub returns : goal.returns

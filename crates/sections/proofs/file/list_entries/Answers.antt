@@ -3,7 +3,7 @@ use Rattle.refusals.specs.Codes.{code_of}
 use Rattle.sections.specs.Entries.{Described}
 use Rattle.sections.specs.Files.{listed_from, bodies_from}
 use Rattle.sections.specs.Meaning.{meaning_of}
-use Rattle.sections.proofs.Listed.{one_more, one_bad, at-end, put, short_enough}
+use Rattle.sections.proofs.Listed.{one_more, one_bad, at_end, put, short_enough}
 use Rattle.sections.proofs.file.list_entries.Goals as goal
 
 pub loop-i-init : goal.loop-i-init
@@ -37,5 +37,5 @@ returns c =
     let i : ℕ = c.loop-i.i in
     let all : i ≡ c.args.count = omega arith in
     sym (c.loop-i.invariant.2
-    ∙ (at-end c.args.page_length c.args.page_count c.args.file.now c.args.count i c.loop-i.offset (map meaning_of (take i xs)) all (omega arith)
+    ∙ (at_end c.args.page_length c.args.page_count c.args.file.now c.args.count i c.loop-i.offset (map meaning_of (take i xs)) all (omega arith)
     ∙ ap (λ (k : ℕ). Ok (map meaning_of (take k xs))) all))

@@ -13,12 +13,12 @@ use Rattle.sections.proofs.sealing.seal.Goals as goal
 
 pub copy_from_slice-requires : goal.copy_from_slice-requires
 copy_from_slice-requires g c =
-    (ready c.block_length-n.result c.args.entry.now c.byte_count-long.result (length c.args.body.now) (meaning_of c.in-Ok.section) c.in-Ok.ensures).body-long
+    (ready c.block_length-n.result c.args.entry.now c.byte_count-long.result (length c.args.body.now) (meaning_of c.in-Ok.section) c.in-Ok.ensures).body_long
     ∙ c.byte_count-long.ensures.value
 
 pub write_tag-requires : goal.write_tag-requires
 write_tag-requires g c =
-    (ready c.block_length-n.result c.args.entry.now c.byte_count-long.result (length c.args.body.now) (meaning_of c.in-Ok.section) c.in-Ok.ensures).entry-long
+    (ready c.block_length-n.result c.args.entry.now c.byte_count-long.result (length c.args.body.now) (meaning_of c.in-Ok.section) c.in-Ok.ensures).entry_long
 
 pub returns : goal.returns
 returns g c =

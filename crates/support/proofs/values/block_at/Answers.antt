@@ -1,6 +1,6 @@
 use Rattle.std.proofs.Common.{◌≡◌, ℕ, ◌+◌, ◌*◌, ◌<◌, List, length, get_or, set, ◌∙◌, arith, length-set}
 use Rattle.std.proofs.lemmas.List.Edits.{fill_by_more}
-use Rattle.support.proofs.Paging.{byte_at, block-is}
+use Rattle.support.proofs.Paging.{byte_at, block_is}
 use Rattle.support.proofs.values.block_at.Goals as goal
 
 -- one more byte is as it should be
@@ -14,4 +14,4 @@ loop-j-preserved c = (
 )
 
 pub returns : goal.returns
-returns c wide h = block-is c.args.image.now c.args.fill wide c.args.i c.loop-j.bytes c.loop-j.invariant.0 h (λ k l. c.loop-j.invariant.1 k (omega arith))
+returns c wide h = block_is c.args.image.now c.args.fill wide c.args.i c.loop-j.bytes c.loop-j.invariant.0 h (λ k l. c.loop-j.invariant.1 k (omega arith))

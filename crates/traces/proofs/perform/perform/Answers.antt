@@ -19,7 +19,7 @@ use Rattle.traces.specs.Promise.{Fit}
 use Rattle.traces.specs.Meaning.{call_of, section_of, closed_in}
 use Rattle.traces.specs.Buffers.{Buffers}
 use Rattle.traces.specs.Runs.{setting, stands_by}
-use Rattle.traces.proofs.Performed.{Performs, marks-kept, performs_frame, performs_erase, performs_close, performs_reopen, performs_verify, performs_give, performs_program}
+use Rattle.traces.proofs.Performed.{Performs, marks_kept, performs_frame, performs_erase, performs_close, performs_reopen, performs_verify, performs_give, performs_program}
 use Rattle.traces.proofs.perform.perform.Goals as goal
 
 -- what is performed for a call is performed for the call as it came
@@ -51,7 +51,7 @@ returns-in-Frame g c =
     (performs_frame w body marks t page c.requires.store closed c.in-Frame.first c.in-Frame.bytes.now _ c.on_frame.new.body (marks_in c.on_frame.new.arrivals) e.answer e.body e.arrivals e.copies) in
     record {
       section = e.phase.0;
-      marks = ap length e.arrivals ∙ marks-kept s body marks c.in-Frame.first c.in-Frame.bytes.now closed;
+      marks = ap length e.arrivals ∙ marks_kept s body marks c.in-Frame.first c.in-Frame.bytes.now closed;
       bytes = subst OfBytes (sym is) c.byte_count-bytes.ensures.bytes;
       answer = p.answer;
       standing = ap (λ (x : Bool). stands_by s c.on_frame.new.body (marks_in c.on_frame.new.arrivals) x t) e.phase.1 ∙ p.stands;

@@ -15,7 +15,7 @@ use Rattle.traces.specs.Meaning.{call_of, answer_of, section_of, closed_in}
 use Rattle.traces.specs.Promise.{Fit}
 use Rattle.traces.specs.Buffers.{buffers}
 use Rattle.traces.specs.Runs.{setting, stands_by, Runs, Ends}
-use Rattle.traces.proofs.Ended.{opened, record_cleared, run-whole}
+use Rattle.traces.proofs.Ended.{opened, record_cleared, run_whole}
 use Rattle.traces.proofs.run.run.Goals as goal
 
 pub run_calls-requires : goal.run_calls-requires
@@ -66,5 +66,5 @@ returns g c =
       runs = λ d q.
           for_told
           (λ (x : Described). Runs (setting cipher x (rows_of a.keys.now.table.now) a.keys.now.tag_key.now (length page)) t (buffers body (replicate (blocks_of x) Missing) page) calls told (g.T.Target.state c.run_calls.new.target) (closed_in p.phase) left) s d
-          (run-whole w t fit body (marks_in c.open.new.arrivals) clean calls e.bytes told page end left e.answers e.standing e.buffers) (opens d q);
+          (run_whole w t fit body (marks_in c.open.new.arrivals) clean calls e.bytes told page end left e.answers e.standing e.buffers) (opens d q);
     }

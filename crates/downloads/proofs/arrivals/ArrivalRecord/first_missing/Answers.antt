@@ -1,14 +1,14 @@
 use Rattle.std.proofs.Common.{◌-◌, not, sym, ap, ◌∙◌, inl, inr, arith}
 use Rattle.std.proofs.lemmas.Bool.{cases_eq}
 use Rattle.downloads.specs.Marks.{arrived_at, marks_in}
-use Rattle.downloads.proofs.Lowest.{lowest-is, lowest_none}
+use Rattle.downloads.proofs.Lowest.{lowest_is, lowest_none}
 use Rattle.downloads.proofs.arrivals.ArrivalRecord.first_missing.Goals as goal
 
 pub returns-then-not-has : goal.returns-then-not-has
 returns-then-not-has c =
     let marks = marks_in c.args.self.now in
     let k = c.loop-k.k in
-    sym (lowest-is (λ i. not (arrived_at marks i)) (c.args.end - c.args.from) c.args.from k c.loop-k.auto.k (omega (arith, c.loop-k.auto.k, c.loop-k-test.true))
+    sym (lowest_is (λ i. not (arrived_at marks i)) (c.args.end - c.args.from) c.args.from k c.loop-k.auto.k (omega (arith, c.loop-k.auto.k, c.loop-k-test.true))
     (ap not (sym c.if-not-has.ensures)) (λ i x y. ap not (c.loop-k.invariant i x y)))
 
 pub loop-k-preserved : goal.loop-k-preserved

@@ -1,7 +1,7 @@
 use Rattle.std.proofs.Common.{refl, arith, length-drop, length-take, rules}
 use Rattle.downloads.specs.Marks.{marks_in}
 use Rattle.downloads.specs.States.{receiving_of}
-use Rattle.downloads.proofs.Taken.{lies, room, body-taken, marks-taken, taken}
+use Rattle.downloads.proofs.Taken.{lies, room, body_taken, marks_taken, taken}
 use Rattle.downloads.proofs.state.Receiving.take_frame.Goals as goal
 
 pub slice_bounds-write_front-count : goal.slice_bounds-write_front-count
@@ -32,7 +32,7 @@ returns-in-Ok c =
     record {
       answer = granted;
       state = refl;
-      body = body-taken s body marks c.args.first c.args.frame.now n size granted c.write_front.new.part c.write_front.ensures;
-      arrivals = marks-taken s body marks c.args.first c.args.frame.now n size granted (marks_in c.mark.new.self) c.mark.ensures;
+      body = body_taken s body marks c.args.first c.args.frame.now n size granted c.write_front.new.part c.write_front.ensures;
+      arrivals = marks_taken s body marks c.args.first c.args.frame.now n size granted (marks_in c.mark.new.self) c.mark.ensures;
       copies = taken s body marks c.args.first c.args.frame.now n size granted c.write_front.new.part (marks_in c.mark.new.self) c.write_front.ensures c.mark.ensures;
     }

@@ -1,7 +1,7 @@
 use Rattle.std.proofs.Common.{◌≡◌, ℕ, ◌/◌, ◌%◌, List, ◌++◌, length, refl, ap, ◌∙◌, arith}
 use Rattle.imitovstavka.specs.Chain.{chained, absorbed, start}
 use Rattle.imitovstavka.specs.Parts.{map_in, state_in}
-use Rattle.imitovstavka.proofs.Chains.{absorbed-append, absorbed-whole, chained_more, chained_rest}
+use Rattle.imitovstavka.proofs.Chains.{absorbed-append, absorbed_whole, chained_more, chained_rest}
 use Rattle.imitovstavka.proofs.chain.Chain.absorb.Goals as goal
 
 -- the law of parts, from what one part gives
@@ -32,5 +32,5 @@ returns-else-part-ne0 c =
     let E = map_in c.args.self.now in
     let state = state_in c.args.self.now in
     let part = c.args.part.now in
-    let after : state_in c.loop-i.self ≡ absorbed E state part = c.loop-i.invariant.1 ∙ absorbed-whole E state part c.loop-i.i (omega arith) (omega arith) in
+    let after : state_in c.loop-i.self ≡ absorbed E state part = c.loop-i.invariant.1 ∙ absorbed_whole E state part c.loop-i.i (omega arith) (omega arith) in
     record { map = c.loop-i.invariant.0; state = after; together = together E state part (state_in c.loop-i.self) after }

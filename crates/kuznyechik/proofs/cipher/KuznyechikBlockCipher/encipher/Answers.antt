@@ -1,5 +1,5 @@
 use Rattle.std.proofs.Common.{◌∙◌}
-use Rattle.blocks.proofs.Lengths.{accepted, replaced-is}
+use Rattle.blocks.proofs.Lengths.{accepted, replaced_is}
 use Rattle.kuznyechik.specs.Cipher.{enciphered, deciphered}
 use Rattle.kuznyechik.proofs.Undoing.{enciphered_undone}
 use Rattle.kuznyechik.proofs.cipher.KuznyechikBlockCipher.encipher.Goals as goal
@@ -10,6 +10,6 @@ returns c =
     let block = c.args.block.now in
     let long = c.if-block-ne16.false in
     let law = enciphered_undone keys c.args.self.now.bytes in
-    let made = replaced-is 16 (enciphered keys) block long in
-    let back = replaced-is 16 (deciphered keys) (enciphered keys block) (law.stays block (long, c.hold_bytes.ensures)).0 ∙ law.back block (long, c.hold_bytes.ensures) in
+    let made = replaced_is 16 (enciphered keys) block long in
+    let back = replaced_is 16 (deciphered keys) (enciphered keys block) (law.stays block (long, c.hold_bytes.ensures)).0 ∙ law.back block (long, c.hold_bytes.ensures) in
     record { answer = accepted 16 block long; block = cc; undone = cc }

@@ -4,7 +4,7 @@ use Rattle.sections.specs.Entries.{Described}
 use Rattle.sections.specs.Files.{section_at, asked}
 use Rattle.sections.specs.Meaning.{sections_in}
 use Rattle.sections.proofs.Judged.{told}
-use Rattle.sections.proofs.Listed.{counted, none_first, none_past, section-is}
+use Rattle.sections.proofs.Listed.{counted, none_first, none_past, section_is}
 use Rattle.sections.proofs.listing.Listing.section.Goals as goal
 use Rattle.sections.proofs.listing.Listing.section.Goals.{then-number-eq0-via-then-number-eq0, then-number-eq0-via-else-number-eq0+then-number-self}
 
@@ -22,5 +22,5 @@ returns-then-number-eq0 c =
 pub returns : goal.returns
 returns c =
     let l = c.args.self.now in
-    let some = section-is l.count l.sections c.args.number c.index-self-number.result (omega arith) (omega arith) (omega (arith, l.full, l.within)) in
+    let some = section_is l.count l.sections c.args.number c.index-self-number.result (omega arith) (omega arith) (omega (arith, l.full, l.within)) in
     sym (ap (λ (o : Option Described). asked c.args.number o) some)

@@ -4,10 +4,10 @@ use Rattle.std.proofs.lemmas.Result.{err_from_is_err_and}
 use Rattle.refusals.specs.Codes.{code_of}
 use Rattle.targets.specs.Calls.{erase_answer, with_page}
 use Rattle.targets.specs.Paged.{length_of, state_of}
-use Rattle.targets.proofs.Answered.{erase-granted}
+use Rattle.targets.proofs.Answered.{erase_granted}
 use Rattle.targets.proofs.Divided.{ends_within}
 use Rattle.targets.proofs.Kept.{locks_keep}
-use Rattle.targets.proofs.Put.{after-refused, written, part-long}
+use Rattle.targets.proofs.Put.{after-refused, written, part_long}
 use Rattle.targets.proofs.paged.Paged.erase_page.Goals as goal
 
 pub returns-in_err-may_erase : goal.returns-in_err-may_erase
@@ -25,7 +25,7 @@ slice_bounds-fill-end g c =
     let t = c.args.self.now in
     let s = state_of (not (eqb g.row.REWRITABLE 0)) t in
     let says : Ok tt ≡ erase_answer s c.args.page = c.in_ok-may_erase.ensures in
-    let there = (erase-granted s c.args.page (sym says)).0 in
+    let there = (erase_granted s c.args.page (sym says)).0 in
     omega (arith, ends_within (length_of t.sixteens) c.size-size.result c.args.page t.memory.now c.size-size.ensures there)
 
 pub returns : goal.returns
@@ -38,9 +38,9 @@ returns g c =
     let blank = replicate n t.fill in
     let s = state_of (not (eqb g.row.REWRITABLE 0)) t in
     let says : Ok tt ≡ erase_answer s page = c.in_ok-may_erase.ensures in
-    let there = (erase-granted s page (sym says)).0 in
+    let there = (erase_granted s page (sym says)).0 in
     let held : c.fill.new.self ≡ blank =
-    c.fill.ensures.after (λ y e. e) ∙ ap (λ (k : ℕ). replicate k t.fill) (part-long n page size memory c.size-size.ensures there) in
+    c.fill.ensures.after (λ y e. e) ∙ ap (λ (k : ℕ). replicate k t.fill) (part_long n page size memory c.size-size.ensures there) in
     record {
       answer = says;
       after = written s.rewritable n t.fill page size memory c.fill.new.self blank t.locked t.ready true c.size-size.ensures there held (length-replicate n t.fill) says;

@@ -2,7 +2,7 @@ use Rattle.std.proofs.Common.{◌≡◌, false, Ok, Err, Result, sym, ap, ◌∙
 use Rattle.refusals.specs.Codes.{Code}
 use Rattle.targets.specs.Calls.{read_answer}
 use Rattle.targets.specs.Paged.{length_of, count_of, state_of}
-use Rattle.targets.proofs.Answered.{reading-granted, program-locked, program_unready, program_free}
+use Rattle.targets.proofs.Answered.{reading-granted, program_locked, program_unready, program_free}
 use Rattle.targets.proofs.Marks.{mark_is}
 use Rattle.targets.proofs.paged.Paged.may_program.Goals as goal
 
@@ -16,7 +16,7 @@ returns-then-self-place g c =
     let says : Ok tt ≡ read_answer s page n = c.in_ok-may_read.ensures in
     let fits = reading-granted s page n (Ok tt) (sym says) in
     let why : Code → Result Unit Code = Err in
-    ap why c.refusal.ensures ∙ sym (program-locked s page fits.0 n fits.1 (mark_is count t.locked page fits.0 c.if-self-place.true))
+    ap why c.refusal.ensures ∙ sym (program_locked s page fits.0 n fits.1 (mark_is count t.locked page fits.0 c.if-self-place.true))
 
 pub returns-then-not-self-place : goal.returns-then-not-self-place
 returns-then-not-self-place g c =
