@@ -84,11 +84,6 @@ returns g c =
 
 pub overflow_add-place : goal.overflow_add-place
 overflow_add-place g c =
-    let s = meaning_of c.args.section.now in
-    let map = g.C.BlockCipher.map c.args.cipher.now in
-    let t = g.T.Target.state c.args.target.now in
-    let body = c.args.body.now in
-    let marks = marks_in c.args.arrivals.now in
-    let ok = page_granted s t (copies_in (block_of s) body marks) c.args.j (sym (c.in_ok-judge_page.ensures t (sym c.page_length-long.ensures.value) (sym c.page_count.ensures))) in
-    let there : s.first_page + c.args.j < t.page_count = ok.there in
-    omega (arith, there, c.page_count.ensures)
+    let judged = c.in_ok-judge_page.ensures (g.T.Target.state c.args.target.now) (sym c.page_length-long.ensures.value) (sym c.page_count.ensures) in
+    let ok = page_granted (meaning_of c.args.section.now) (g.T.Target.state c.args.target.now) _ c.args.j (sym judged) in
+    omega (arith, ok.there, c.page_count.ensures)
