@@ -1,5 +1,5 @@
 -- What the calls answer, by cases.
-use Rattle.std.proofs.Common.{◌≡◌, ℕ, ◌<◌, ◌≤◌, Bool, true, false, cond, eqb, leb, List, length, Ok, Err, Option, Result, refl, ap, arith}
+use Rattle.std.proofs.Common.{◌≡◌, ℕ, ◌%◌, ◌<◌, ◌≤◌, Bool, true, false, cond, ◌&&◌, eqb, leb, List, length, Ok, Err, Option, Result, refl, ap, arith}
 use Rattle.std.proofs.lemmas.Bool.{and_parts, eqb-true, leb-true}
 use Rattle.refusals.specs.declared.Reason.{Reason}
 use Rattle.refusals.specs.declared.Reason.TheVariants.{WrongBuffer, BadBlock, Conflict, MissingBlock}
@@ -7,6 +7,7 @@ use Rattle.refusals.specs.declared.Layer.{Layer}
 use Rattle.refusals.specs.declared.Layer.TheVariants.{Download}
 use Rattle.refusals.specs.declared.Refusal.{Refusal}
 use Rattle.refusals.specs.Codes.{Code, refuse, code_of}
+use Rattle.description.specs.Limits.{allowed_length}
 use Rattle.sections.specs.declared.kind.CipherKind.{CipherKind}
 use Rattle.sections.specs.declared.kind.CipherKind.TheVariants.{Gost, Kuznyechik}
 use Rattle.sections.specs.Images.{block_length, allowed_image}
@@ -33,10 +34,25 @@ image_small L h = leb-true L 16384 (and_parts (leb 9 L) (leb L 16384) h).1
 pub image_some : (L : ℕ) → allowed_image L ≡ true → 0 < L
 image_some L h = omega (arith, leb-true 9 L (and_parts (leb 9 L) (leb L 16384) h).0)
 
+pub page_parts : (P : ℕ) → allowed_length P ≡ true → (16 ≤ P) × ((P ≤ 4096) × (P % 16 ≡ 0))
+page_parts P h =
+    let p = and_parts (leb 16 P) (leb P 4096 && eqb (P % 16) 0) h in
+    let q = and_parts (leb P 4096) (eqb (P % 16) 0) p.1 in
+    (leb-true 16 P p.0, (leb-true P 4096 q.0, eqb-true (P % 16) 0 q.1))
+
 pub store_parts : (s : Described) (body marks : ℕ) → good_store s body marks ≡ true → (body ≡ s.length) × (marks ≡ blocks_of s)
 store_parts s body marks h =
     let p = and_parts (eqb body s.length) (eqb marks (blocks_of s)) h in
     (eqb-true body s.length p.0, eqb-true marks (blocks_of s) p.1)
+
+-- buffers that are compared first
+pub refused_first : (right : Bool) (e : Code) → ◌≡◌ {A = Result Unit Code} (Err e) (sized right (Ok tt)) → (right ≡ false) × (e ≡ refuse WrongBuffer 0 Download)
+refused_first true e h = let z : ◌≡◌ {A = ℕ} 0 1 = cc in absurd (omega arith)
+refused_first false e h = (refl, cc)
+
+pub passed_first : (right : Bool) → ◌≡◌ {A = Result Unit Code} (Ok tt) (sized right (Ok tt)) → right ≡ true
+passed_first true h = refl
+passed_first false h = let z : ◌≡◌ {A = ℕ} 0 1 = cc in absurd (omega arith)
 
 -- an answer that is no refusal
 pub ok_sized : {X : Type 0} (right : Bool) (rest : Result X Code) (x : X) → sized right rest ≡ Ok x → (right ≡ true) × (rest ≡ Ok x)

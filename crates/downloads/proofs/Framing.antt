@@ -4,12 +4,12 @@ use borrow.Rule.Slice.PartMut.{put_mid}
 use Rattle.std.proofs.lemmas.Nat.{div-add-mod'}
 use Rattle.std.proofs.lemmas.List.{append-nil, take-append-le, drop-append-le, drop-drop, drop_at, drop_all, drop-take, length-take-le, take_all}
 use Rattle.std.proofs.lemmas.Slice.{take-put_mid_below, drop-put_mid}
-use Rattle.std.proofs.lemmas.Bool.{and_parts, and_cases, and_left, and_right, or_cases, eqb-true, leb-true, leb-false, ltb-true, ltb-false, le-leb, lt-leb, lt-ltb, le-ltb, cases_Bool, cases_lt, cond-true, cond-false}
+use Rattle.std.proofs.lemmas.Bool.{and_parts, and_cases, and_left, and_right, or_cases, eqb-true, leb-true, leb-false, ltb-true, ltb-false, le-leb, lt-leb, lt-ltb, le-ltb, cases_Bool, cases_eq, cases_lt, cond-true, cond-false}
 use Rattle.std.specs.Str.{bytes_eq}
 use Rattle.blocks.specs.Bytes.{block}
 use Rattle.modes.specs.Modes.{block_count}
 use Rattle.modes.proofs.Plain.{index_in, index_out}
-use Rattle.modes.proofs.Joined.{count_tight}
+use Rattle.modes.proofs.Joined.{count_whole, count_rest, count_tight}
 use Rattle.downloads.specs.declared.arrivals.Arrival.{Arrival}
 use Rattle.downloads.specs.Marks.{arrived_at}
 use Rattle.downloads.specs.Copies.{Copies, copies_in}
@@ -34,6 +34,15 @@ framed n L f bytes h =
     }
 
 -- ---- places
+-- the blocks that a division rounded up counts
+pub count_ceil : (n m bytes : ℕ) → n ≡ m → 0 < m → bytes / n + min 1 (bytes % n) ≡ block_count m bytes
+count_ceil n m bytes e h =
+    rw e
+    (elim (cases_eq (bytes % m) 0) [
+      | inl whole ↦ omega (arith, count_whole m bytes h whole)
+      | inr rest ↦ omega (arith, count_rest m bytes h rest)
+    ])
+
 pub times_le : (n k : ℕ) → 0 < n → k ≤ n * k
 times_le n k pos = let one : 1 ≤ n = omega arith in omega (arith, mul-le-mul_right k one, one-mul k)
 
@@ -158,11 +167,8 @@ pub conflicts_in : (n : ℕ) (copies : Copies) (f : ℕ) (frame : List ℕ) (k :
 conflicts_in n copies f frame k h l = rw (le-leb f k h, lt-ltb (n * (k - f)) (length frame) l)
 
 -- no block that is not covered
-pub conflicts_out : (n : ℕ) (copies : Copies) (f : ℕ) (frame : List ℕ) (k : ℕ) → 0 < n → (k < f) ⊎ (f + block_count n (length frame) ≤ k) → conflicts n copies f frame k ≡ false
-conflicts_out n copies f frame k pos h =
-    and_left (covers n f (length frame) k) (differs (copies k) (block_in n f frame k))
-    (covers_is n f (length frame) k pos
-    ∙ elim h [ inl low ↦ and_left (leb f k) (ltb k (f + block_count n (length frame))) (lt-leb f k low) | inr high ↦ and_right (leb f k) (ltb k (f + block_count n (length frame))) (le-ltb k (f + block_count n (length frame)) high) ])
+pub conflicts_past : (n : ℕ) (copies : Copies) (f : ℕ) (frame : List ℕ) (k : ℕ) → 0 < n → (leb f k && ltb k (f + block_count n (length frame))) ≡ false → conflicts n copies f frame k ≡ false
+conflicts_past n copies f frame k pos h = and_left (covers n f (length frame) k) (differs (copies k) (block_in n f frame k)) (covers_is n f (length frame) k pos ∙ h)
 
 pub conflict_missing : (n : ℕ) (body : List ℕ) (marks : List Arrival) (f : ℕ) (frame : List ℕ) (k : ℕ) → arrived_at marks k ≡ false → conflicts n (copies_in n body marks) f frame k ≡ false
 unfolding copies_in
@@ -183,17 +189,17 @@ cut n xs a w (inr e) =
     take_all w (drop a xs) s ∙ sym (take_all n (drop a xs) t)
 
 -- the two parts that are compared are the blocks
-module _ (n f i e : ℕ) (body frame : List ℕ) (pos : 0 < n) (l : n * i < length frame) (fr : Framed n (length body) f (length frame)) (end : e ≡ min (n * i + n) (length frame)) where
-  pub cut_frame : take (e - n * i) (drop (n * i) frame) ≡ block n i frame
+module _ (n f k e : ℕ) (body frame : List ℕ) (pos : 0 < n) (low : f ≤ k) (l : n * (k - f) < length frame) (fr : Framed n (length body) f (length frame)) (end : e ≡ min (n * (k - f) + n) (length frame)) where
+  pub cut_frame : take (e - n * (k - f)) (drop (n * (k - f)) frame) ≡ block_in n f frame k
   cut_frame =
-      cut n frame (n * i) (e - n * i)
-      (elim (cases_lt (n * i + n) (length frame)) [ inl a ↦ inl (omega arith) | inr a ↦ inr (omega arith, omega arith) ])
+      cut n frame (n * (k - f)) (e - n * (k - f))
+      (elim (cases_lt (n * (k - f) + n) (length frame)) [ inl a ↦ inl (omega arith) | inr a ↦ inr (omega arith, omega arith) ])
 
-  pub cut_body : take (n * f + e - (n * f + n * i)) (drop (n * f + n * i) body) ≡ block n (f + i) body
+  pub cut_body : take (n * k + (e - n * (k - f)) - n * k) (drop (n * k) body) ≡ block n k body
   cut_body =
-      cut n body (n * f + n * i) (n * f + e - (n * f + n * i))
+      let p = place n f k low in
+      cut n body (n * k) (n * k + (e - n * (k - f)) - n * k)
       (elim fr.shape [
-        | inl w ↦ let room = whole_next n i (length frame) pos w l in inl (omega arith)
-        | inr w ↦ elim (cases_lt (n * i + n) (length frame)) [ inl a ↦ inl (omega arith) | inr a ↦ inr (omega arith, omega arith) ]
+        | inl w ↦ let room = whole_next n (k - f) (length frame) pos w l in inl (omega arith)
+        | inr w ↦ elim (cases_lt (n * (k - f) + n) (length frame)) [ inl a ↦ inl (omega arith) | inr a ↦ inr (omega arith, omega (arith, p)) ]
       ])
-      ∙ ap (λ (x : ℕ). take n (drop x body)) (sym (mul-add n f i))

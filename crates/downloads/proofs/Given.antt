@@ -1,6 +1,6 @@
 -- Giving a block.
 use Rattle.std.proofs.Common.{◌≡◌, ℕ, ◌+◌, ◌-◌, ◌*◌, ◌<◌, ◌≤◌, min, Bool, true, false, not, ◌&&◌, eqb, ltb, List, [], length, Some, None, Ok, Err, Option, Result, unwrap_or, sym, refl, ap, ◌∙◌, subst, ap₂, arith}
-use Rattle.std.proofs.lemmas.Bool.{cond-true, and_left, and_parts, ltb-true, lt-ltb, le-leb, eqb-true, eq-eqb}
+use Rattle.std.proofs.lemmas.Bool.{cond-true, and_left, and_parts, ltb-true, lt-ltb, le-leb, eqb-true, eq-eqb, false≢true}
 use Rattle.refusals.specs.declared.Reason.{Reason}
 use Rattle.refusals.specs.declared.Reason.TheVariants.{BadBlock, MissingBlock, WrongBuffer}
 use Rattle.refusals.specs.declared.Layer.TheVariants.{Download}
@@ -100,12 +100,21 @@ module _ (c : BlockMap) (s : Described) (body marks : ℕ) (copies : Copies) (i 
   unfolding give_answer
   give_done h j after e = gives (Ok (block_bytes s i)) after (rw (← h) (ap (λ (r : Result Unit Code). then r (λ _. Ok (block_bytes s i))) j)) e
 
--- the parts as a call compares them
-pub parts_are : (s : Described) (n n' body m m' room w w' : ℕ) → n ≡ n' → m ≡ m' → w ≡ w' →
-    (eqb n (block_of s) && (good_store s body m && eqb room w)) ≡ (eqb n' (block_of s) && (good_store s body m' && eqb room w'))
-parts_are s n n' body m m' room w w' p q r =
-    ap (λ (x : ℕ). eqb x (block_of s) && (good_store s body m && eqb room w)) p
-    ∙ (ap (λ (x : ℕ). eqb n' (block_of s) && (good_store s body x && eqb room w)) q ∙ ap (λ (x : ℕ). eqb n' (block_of s) && (good_store s body m' && eqb room x)) r)
+-- the parts as a call compares them: what belongs to the section first, then a buffer
+pub parts_unlike : (x y z : Bool) → false ≡ (x && y) → false ≡ (x && (y && z))
+parts_unlike true true z h = absurd (false≢true h)
+parts_unlike true false z h = refl
+parts_unlike false y z h = refl
+
+pub room_unlike : (x y z : Bool) → true ≡ (x && y) → false ≡ z → false ≡ (x && (y && z))
+room_unlike true true z h e = e
+room_unlike true false z h e = refl
+room_unlike false y z h e = refl
+
+pub parts_right : (x y z : Bool) → true ≡ (x && y) → true ≡ z → true ≡ (x && (y && z))
+parts_right true true z h e = e
+parts_right true false z h e = h
+parts_right false y z h e = h
 
 pub record Parts (s : Described) (n body m room w : ℕ) : Type 0 where
   pub size : n ≡ block_of s

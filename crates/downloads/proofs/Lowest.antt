@@ -1,6 +1,7 @@
 -- The lowest number that passes a test.
-use Rattle.std.proofs.Common.{◌≡◌, ℕ, zero, suc, ◌+◌, ◌<◌, ◌≤◌, Bool, true, false, is_some, Some, None, Option, sym, refl, ap, ◌∙◌, inl, inr, arith}
+use Rattle.std.proofs.Common.{◌≡◌, ℕ, zero, suc, ◌+◌, ◌-◌, ◌<◌, ◌≤◌, Bool, true, false, is_some, Some, None, Option, sym, refl, ap, ◌∙◌, inl, inr, arith}
 use Rattle.std.proofs.lemmas.Bool.{cond-true, cond-false, cases_Bool, cases_eq, false≢true}
+use Rattle.std.specs.Option.{MatchOption}
 use Rattle.downloads.specs.Marks.{lowest}
 
 pub lowest_is : (test : ℕ → Bool) (m j k : ℕ) → j ≤ k → k < j + m → test k ≡ true → ((i : ℕ) → j ≤ i → i < k → test i ≡ false) → lowest test j m ≡ Some k
@@ -52,3 +53,9 @@ some_found test m j i a b t = by_answer (lowest test j m) refl
     by_answer : (o : Option ℕ) → lowest test j m ≡ o → is_some o ≡ true
     by_answer (Some k) e = refl
     by_answer None e = absurd (false≢true (sym (none_found test m j e i a b) ∙ t))
+
+-- what a search over the numbers from lo on and before hi finds
+pub searched : (test : ℕ → Bool) (lo hi : ℕ) (r : Option ℕ) →
+    MatchOption r ((k : ℕ) → lo ≤ k → k < hi → test k ≡ false) (λ i. (lo ≤ i) × (i < hi) × (test i ≡ true) × ((k : ℕ) → lo ≤ k → k < i → test k ≡ false)) → r ≡ lowest test lo (hi - lo)
+searched test lo hi (Some i) h = sym (lowest_is test (hi - lo) lo i h.0 (omega (arith, h.0, h.1)) h.2 h.3)
+searched test lo hi None h = sym (lowest_none test (hi - lo) lo (λ k a b. h k a (omega arith)))

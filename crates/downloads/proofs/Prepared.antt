@@ -1,8 +1,9 @@
 -- An image page made block by block.
-use Rattle.std.proofs.Common.{◌≡◌, ℕ, suc, ◌+◌, ◌-◌, ◌*◌, ◌/◌, ◌%◌, ◌<◌, ◌≤◌, min, true, ◌&&◌, eqb, leb, List, ◌++◌, length, take, drop, replicate, Ok, Result, sym, refl, ap, ◌∙◌, subst, ap₂, inl, inr, mul_assoc, mul_comm, mul-le-mul_left, mul-add, arith, length-append, length-drop, take-append-drop, length-take}
+use Rattle.std.proofs.Common.{◌≡◌, ℕ, suc, ◌+◌, ◌-◌, ◌*◌, ◌/◌, ◌%◌, ◌<◌, ◌≤◌, min, true, List, ◌++◌, length, take, drop, replicate, Ok, Result, sym, refl, ap, ◌∙◌, subst, ap₂, inl, inr, mul_assoc, mul_comm, mul-le-mul_left, mul-add, arith, length-append, length-drop, take-append-drop, length-take}
 use borrow.Rule.Slice.PartMut.{put_mid}
 use Rattle.std.proofs.lemmas.List.{append_assoc, append-nil, drop-drop, drop_at, take_at, drop-append-le, drop_all}
-use Rattle.std.proofs.lemmas.Bool.{and_parts, eqb-true, leb-true, eq-eqb, lt-ltb, cases_lt}
+use Rattle.std.proofs.lemmas.Bool.{eq-eqb, lt-ltb, cases_lt}
+use Rattle.std.specs.Int.{div_ceil}
 use Rattle.refusals.specs.Codes.{Code, unless}
 use Rattle.blocks.specs.Bytes.{Bytes, block}
 use Rattle.blocks.specs.Ciphers.{BlockMap, Lawful}
@@ -19,8 +20,8 @@ use Rattle.sections.specs.Images.{block_length}
 use Rattle.sections.specs.Entries.{Described}
 use Rattle.downloads.specs.Frames.{block_of, blocks_of}
 use Rattle.downloads.specs.Pages.{first_in, count_in, filled_up}
-use Rattle.downloads.proofs.Framing.{begins, times_le}
-use Rattle.downloads.proofs.Answered.{block_some}
+use Rattle.downloads.proofs.Framing.{begins, times_le, count_ceil}
+use Rattle.downloads.proofs.Answered.{block_some, page_parts}
 use Rattle.downloads.proofs.Given.{section-judged}
 
 -- one part more at the front of a page
@@ -99,17 +100,8 @@ page_whole Gost P h = omega arith
 page_whole Kuznyechik P h = omega arith
 
 module _ (s : Described) (P j : ℕ) (allowed : allowed_length P ≡ true) where
-  sixteens : P % 16 ≡ 0
-  sixteens = eqb-true (P % 16) 0 (and_parts (leb P 4096) (eqb (P % 16) 0) (and_parts (leb 16 P) (leb P 4096 && eqb (P % 16) 0) allowed).1).1
-
-  pub page_small : P ≤ 4096
-  page_small = leb-true P 4096 (and_parts (leb P 4096) (eqb (P % 16) 0) (and_parts (leb 16 P) (leb P 4096 && eqb (P % 16) 0) allowed).1).0
-
-  pub page_some : 16 ≤ P
-  page_some = leb-true 16 P (and_parts (leb 16 P) (leb P 4096 && eqb (P % 16) 0) allowed).0
-
   whole_blocks : block_of s * (P / block_of s) ≡ P
-  whole_blocks = page_whole s.cipher P sixteens
+  whole_blocks = page_whole s.cipher P (page_parts P allowed).1.1
 
   -- it begins where the pages before it end
   pub page_starts : block_of s * first_in P s j ≡ j * P
@@ -126,7 +118,7 @@ module _ (s : Described) (P j : ℕ) (allowed : allowed_length P ≡ true) where
 
     pub page_some_blocks : 0 < count_in P s j
     page_some_blocks =
-        let one : 0 < P / block_of s = some_blocks s.cipher page_some in omega (arith, page_low)
+        let one : 0 < P / block_of s = some_blocks s.cipher (page_parts P allowed).0 in omega (arith, page_low)
       where
         some_blocks : (k : CipherKind) → 16 ≤ P → 0 < P / block_length k
         some_blocks Gost h = omega arith
@@ -147,18 +139,18 @@ module _ (s : Described) (P j : ℕ) (allowed : allowed_length P ≡ true) where
               omega (arith, mul-add (block_of s) (first_in P s j) (count_in P s j), ap (λ (k : ℕ). block_of s * k) e, count_enough (block_of s) s.length (block_some s.cipher), page_fits)
         ]
 
--- the same as a call counts them, with blocks of n bytes and a body of L bytes
-module _ (s : Described) (n L P j : ℕ) (size : n ≡ block_of s) (long : L ≡ s.length) (small : s.length ≤ 16384) (allowed : allowed_length P ≡ true) (inside : j * P < s.length) where
+-- the same as a call counts them, with blocks of n bytes, m of them, and a body of L bytes
+module _ (s : Described) (n L P j m : ℕ) (size : n ≡ block_of s) (long : L ≡ s.length) (rounded : m ≡ div_ceil L n) (small : s.length ≤ 16384) (allowed : allowed_length P ≡ true) (inside : j * P < s.length) where
   pub first_is : j * (P / n) ≡ first_in P s j
   first_is = ap (λ (k : ℕ). j * (P / k)) size
 
-  counted : (L + n - 1) / n ≡ blocks_of s
-  counted = ap₂ (λ (k l : ℕ). (l + k - 1) / k) size long
+  counted : m ≡ blocks_of s
+  counted = rounded ∙ (count_ceil n (block_of s) L size (block_some s.cipher) ∙ ap (block_count (block_of s)) long)
 
-  pub first_low : j * (P / n) ≤ (L + n - 1) / n
+  pub first_low : j * (P / n) ≤ m
   first_low = omega (arith, first_is, counted, page_low s P j allowed inside)
 
-  pub count_is : min (P / n) ((L + n - 1) / n - j * (P / n)) ≡ count_in P s j
+  pub count_is : min (P / n) (m - j * (P / n)) ≡ count_in P s j
   count_is = ap₂ (λ (a b : ℕ). min (P / a) b) size (ap₂ (λ (a b : ℕ). a - b) counted first_is)
 
   pub begin_is : n * (j * (P / n)) ≡ j * P

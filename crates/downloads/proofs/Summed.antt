@@ -1,7 +1,7 @@
 -- The image on a target, taken in page by page.
-use Rattle.std.proofs.Common.{◌≡◌, ℕ, suc, ◌+◌, ◌-◌, ◌*◌, ◌/◌, ◌%◌, ◌<◌, ◌≤◌, min, ◌&&◌, eqb, leb, List, [], ◌∷◌, ◌++◌, length, take, drop, sym, ap, ◌∙◌, ap₂, inl, inr, mul_assoc, mul-le-mul_left, mul-zero, mul-one, mul-add, arith, length-drop, length-take, get_or-drop, take-take, take-add}
+use Rattle.std.proofs.Common.{◌≡◌, ℕ, suc, ◌+◌, ◌-◌, ◌*◌, ◌/◌, ◌%◌, ◌<◌, ◌≤◌, min, List, [], ◌∷◌, ◌++◌, length, take, drop, sym, ap, ◌∙◌, ap₂, inl, inr, mul_assoc, mul-le-mul_left, mul-zero, mul-one, mul-add, arith, length-drop, length-take, get_or-drop, take-take, take-add}
 use Rattle.std.proofs.lemmas.List.{take_all, length-take-le}
-use Rattle.std.proofs.lemmas.Bool.{and_parts, eqb-true, leb-true, lt-leb, eq-eqb, cases_lt}
+use Rattle.std.proofs.lemmas.Bool.{lt-leb, eq-eqb, cases_lt}
 use Rattle.std.specs.List.{AllByRecursion}
 use Rattle.blocks.specs.Bytes.{Block}
 use Rattle.gost.specs.Tables.{Rows}
@@ -15,6 +15,7 @@ use Rattle.sections.specs.Files.{pages_end}
 use Rattle.targets.specs.State.{TargetState, WellFormed, page_of}
 use Rattle.targets.specs.Calls.{read_out}
 use Rattle.downloads.specs.Verdicts.{flat, image_on, value_of_image, last_page}
+use Rattle.downloads.proofs.Answered.{page_parts}
 use Rattle.downloads.proofs.Framing.{begins}
 use Rattle.downloads.proofs.Flat.{Long, flat-length, flat_page, all_drop}
 
@@ -29,10 +30,9 @@ eights P k h =
     let f : P * k ≡ 8 * (q * k) = ap (λ (n : ℕ). n * k) e ∙ mul_assoc 8 q k in
     omega (arith, f)
 
--- after k pages: what was taken in, how many bytes are left, and which page was read last
-pub record Summed (s : Described) (t : TargetState) (E : List ℕ → List ℕ) (k left : ℕ) (state page : List ℕ) : Type 0 where
+-- after k pages: what was taken in, and which page was read last
+pub record Summed (s : Described) (t : TargetState) (E : List ℕ → List ℕ) (k : ℕ) (state page : List ℕ) : Type 0 where
   pub state_is : state ≡ absorbed E start (take (t.page_length * k) (image_on s t))
-  pub left_is : left ≡ s.length - t.page_length * k
   pub page_is : (m : ℕ) → suc m ≡ k → page ≡ page_of t (s.first_page + m)
 
 module _ (s : Described) (t : TargetState) (E : List ℕ → List ℕ) (formed : WellFormed t) (there : pages_end t.page_length s ≤ t.page_count) where
@@ -46,10 +46,7 @@ module _ (s : Described) (t : TargetState) (E : List ℕ → List ℕ) (formed :
   F = flat (drop s.first_page t.pages)
 
   some_page : 0 < P
-  some_page = let p = and_parts (leb 16 P) (leb P 4096 && eqb (P % 16) 0) formed.sized in omega (arith, leb-true 16 P p.0)
-
-  whole_page : P % 16 ≡ 0
-  whole_page = eqb-true (P % 16) 0 (and_parts (leb P 4096) (eqb (P % 16) 0) (and_parts (leb 16 P) (leb P 4096 && eqb (P % 16) 0) formed.sized).1).1
+  some_page = omega (arith, (page_parts P formed.sized).0)
 
   held : AllByRecursion (Long P) (drop s.first_page t.pages)
   held = all_drop P s.first_page t.pages (all_long P t.pages formed.held)
@@ -63,11 +60,10 @@ module _ (s : Described) (t : TargetState) (E : List ℕ → List ℕ) (formed :
       let l : length F ≡ P * length (drop s.first_page t.pages) = flat-length P (drop s.first_page t.pages) held in
       length-take-le L F (omega (arith, l, count_enough P L some_page, mul-le-mul_left P pages_there))
 
-  pub summed_first : (page : List ℕ) → Summed s t E 0 L start page
+  pub summed_first : (page : List ℕ) → Summed s t E 0 start page
   unfolding absorbed
   summed_first page = record {
     state_is = sym (ap (λ (n : ℕ). absorbed E start (take n (image_on s t))) (mul-zero P));
-    left_is = omega (arith, mul-zero P);
     page_is = λ m e. absurd (omega arith);
   }
 
@@ -91,27 +87,24 @@ module _ (s : Described) (t : TargetState) (E : List ℕ → List ℕ) (formed :
       ] in
       sym joined ∙ end
 
-  pub summed_next : (k left count : ℕ) (state state' page page' : List ℕ) → k < pages_for P L → Summed s t E k left state page → page' ≡ page_of t (s.first_page + k) → count ≡ min left P →
-      ((before : List ℕ) → length before % 8 ≡ 0 → state ≡ absorbed E start before → state' ≡ absorbed E start (before ++ take count page')) → Summed s t E (k + 1) (left - count) state' page'
-  summed_next k left count state state' page page' h was read counted together =
+  pub summed_next : (k count : ℕ) (state state' page page' : List ℕ) → k < pages_for P L → Summed s t E k state page → page' ≡ page_of t (s.first_page + k) → count ≡ min (L - P * k) P →
+      ((before : List ℕ) → length before % 8 ≡ 0 → state ≡ absorbed E start before → state' ≡ absorbed E start (before ++ take count page')) → Summed s t E (k + 1) state' page'
+  summed_next k count state state' page page' h was read counted together =
       let low : P * k < L = begins P k L some_page h in
-      let next : P * (k + 1) ≡ P * k + P = mul-add P k 1 ∙ ap (λ (n : ℕ). P * k + n) (mul-one P) in
       let before : List ℕ = take (P * k) (image_on s t) in
       let long : length before ≡ P * k = length-take-le (P * k) (image_on s t) (omega (arith, image_length_lem)) in
-      let bytes : count ≡ min (L - P * k) P = counted ∙ ap (λ (n : ℕ). min n P) was.left_is in
       record {
-        state_is = together before (ap (λ (n : ℕ). n % 8) long ∙ eights P k whole_page) was.state_is ∙ ap (absorbed E start) (ap (λ (x : List ℕ). before ++ take count x) read ∙ more k count h bytes);
-        left_is = omega (arith, was.left_is, bytes, next);
+        state_is = together before (ap (λ (n : ℕ). n % 8) long ∙ eights P k (page_parts P formed.sized).1.1) was.state_is ∙ ap (absorbed E start) (ap (λ (x : List ℕ). before ++ take count x) read ∙ more k count h counted);
         page_is = λ m e. let q : m ≡ k = omega arith in read ∙ ap (λ (x : ℕ). page_of t (s.first_page + x)) (sym q);
       }
 
   -- all of it
-  pub summed_all : (k left : ℕ) (state page : List ℕ) → k ≡ pages_for P L → Summed s t E k left state page → state ≡ absorbed E start (image_on s t)
-  summed_all k left state page e was =
+  pub summed_all : (k : ℕ) (state page : List ℕ) → k ≡ pages_for P L → Summed s t E k state page → state ≡ absorbed E start (image_on s t)
+  summed_all k state page e was =
       was.state_is ∙ ap (absorbed E start) (take_all (P * k) (image_on s t) (omega (arith, image_length_lem, count_enough P L some_page, ap (λ (n : ℕ). P * n) e)))
 
-  pub last_read : (k left : ℕ) (state page : List ℕ) → k ≡ pages_for P L → 0 < L → Summed s t E k left state page → page ≡ page_of t (last_page s t)
-  last_read k left state page e some was =
+  pub last_read : (k : ℕ) (state page : List ℕ) → k ≡ pages_for P L → 0 < L → Summed s t E k state page → page ≡ page_of t (last_page s t)
+  last_read k state page e some was =
       let one : 0 < pages_for P L = index_in P 0 L some_page (omega (arith, mul-zero P)) in
       let q : suc (k - 1) ≡ k = omega arith in
       let r : s.first_page + (k - 1) ≡ last_page s t = omega arith in

@@ -1,7 +1,8 @@
 -- What a frame that is taken leaves.
-use Rattle.std.proofs.Common.{◌≡◌, ℕ, ◌+◌, ◌-◌, ◌*◌, ◌/◌, ◌≤◌, true, List, ◌++◌, length, take, drop, Ok, Result, sym, ap, ◌∙◌, subst, ap₂, zero-add, arith, length-drop}
+use Rattle.std.proofs.Common.{◌≡◌, ℕ, ◌+◌, ◌-◌, ◌*◌, ◌≤◌, true, List, ◌++◌, length, take, drop, Ok, Result, sym, ap, ◌∙◌, subst, ap₂, zero-add, arith, length-drop}
 use borrow.Rule.Slice.PartMut.{put_mid}
 use Rattle.std.proofs.lemmas.List.{append-nil, drop-drop, drop_all, take_all}
+use Rattle.std.specs.Int.{div_ceil}
 use Rattle.refusals.specs.Codes.{Code, unless}
 use Rattle.modes.specs.Modes.{block_count}
 use Rattle.sections.specs.Entries.{Described}
@@ -9,7 +10,7 @@ use Rattle.downloads.specs.declared.arrivals.Arrival.{Arrival}
 use Rattle.downloads.specs.Marks.{put_at, marked_from}
 use Rattle.downloads.specs.Copies.{copies_in}
 use Rattle.downloads.specs.Frames.{block_of, blocks_of, good_store, good_frame, frame_answer, with_frame, body_after, marks_after}
-use Rattle.downloads.proofs.Framing.{Framed, framed, blocks_within, copies_taken}
+use Rattle.downloads.proofs.Framing.{Framed, framed, blocks_within, count_ceil, copies_taken}
 use Rattle.downloads.proofs.Answered.{store_parts, block_some, frame_granted}
 
 -- a part from a place to the end, with other bytes at its front
@@ -40,10 +41,11 @@ module _ (s : Described) (body : List ℕ) (marks : List Arrival) (f : ℕ) (fra
   pub lies : n * f + length frame ≤ length body
   lies = subst (λ (k : ℕ). k * f + length frame ≤ length body) (sym size) inside.within
 
-  pub room : f + (length frame + n - 1) / n ≤ length marks
-  room =
-      subst (λ (k : ℕ). f + block_count k (length frame) ≤ length marks) (sym size)
-      (omega (arith, blocks_within (block_of s) (length body) f (length frame) (block_some s.cipher) inside.within inside.some, counted))
+  ceil : (m : ℕ) → m ≡ div_ceil (length frame) n → m ≡ block_count (block_of s) (length frame)
+  ceil m e = e ∙ count_ceil n (block_of s) (length frame) size (block_some s.cipher)
+
+  pub room : (m : ℕ) → m ≡ div_ceil (length frame) n → f + m ≤ length marks
+  room m e = omega (arith, blocks_within (block_of s) (length body) f (length frame) (block_some s.cipher) inside.within inside.some, counted, ceil m e)
 
   abbrev said : Result Unit Code
   said = frame_answer s (length body) (length marks) (copies_in (block_of s) body marks) f frame
@@ -51,19 +53,19 @@ module _ (s : Described) (body : List ℕ) (marks : List Arrival) (f : ℕ) (fra
   body_is : (part : List ℕ) → part ≡ put_at 0 frame (take (length body - n * f) (drop (n * f) body)) → put_mid (n * f) (length body - n * f) body part ≡ body_after (block_of s) f frame body
   body_is part e = put_rest (n * f) body frame part lies e ∙ ap (λ (k : ℕ). put_at (k * f) frame body) size
 
-  marks_are : (now : List Arrival) → now ≡ marked_from f ((length frame + n - 1) / n) marks → now ≡ marks_after (block_of s) f frame marks
-  marks_are now e = e ∙ ap (λ (k : ℕ). marked_from f (block_count k (length frame)) marks) size
+  marks_are : (m : ℕ) → m ≡ div_ceil (length frame) n → (now : List Arrival) → now ≡ marked_from f m marks → now ≡ marks_after (block_of s) f frame marks
+  marks_are m e now h = h ∙ ap (λ (k : ℕ). marked_from f k marks) (ceil m e)
 
   pub body_taken : (part : List ℕ) → part ≡ put_at 0 frame (take (length body - n * f) (drop (n * f) body)) →
       put_mid (n * f) (length body - n * f) body part ≡ unless said body (body_after (block_of s) f frame body)
   body_taken part e = body_is part e ∙ ap (λ (r : Result Unit Code). unless r body (body_after (block_of s) f frame body)) granted
 
-  pub marks_taken : (now : List Arrival) → now ≡ marked_from f ((length frame + n - 1) / n) marks → now ≡ unless said marks (marks_after (block_of s) f frame marks)
-  marks_taken now e = marks_are now e ∙ ap (λ (r : Result Unit Code). unless r marks (marks_after (block_of s) f frame marks)) granted
+  pub marks_taken : (m : ℕ) → m ≡ div_ceil (length frame) n → (now : List Arrival) → now ≡ marked_from f m marks → now ≡ unless said marks (marks_after (block_of s) f frame marks)
+  marks_taken m e now h = marks_are m e now h ∙ ap (λ (r : Result Unit Code). unless r marks (marks_after (block_of s) f frame marks)) granted
 
-  pub taken : (part : List ℕ) (now : List Arrival) → part ≡ put_at 0 frame (take (length body - n * f) (drop (n * f) body)) → now ≡ marked_from f ((length frame + n - 1) / n) marks →
+  pub taken : (m : ℕ) → m ≡ div_ceil (length frame) n → (part : List ℕ) (now : List Arrival) → part ≡ put_at 0 frame (take (length body - n * f) (drop (n * f) body)) → now ≡ marked_from f m marks →
       copies_in (block_of s) (put_mid (n * f) (length body - n * f) body part) now ≡ unless said (copies_in (block_of s) body marks) (with_frame (block_of s) (copies_in (block_of s) body marks) f frame)
-  taken part now e m =
-      ap₂ (λ (b : List ℕ) (a : List Arrival). copies_in (block_of s) b a) (body_is part e) (marks_are now m)
+  taken m c part now e h =
+      ap₂ (λ (b : List ℕ) (a : List Arrival). copies_in (block_of s) b a) (body_is part e) (marks_are m c now h)
       ∙ (copies_taken (block_of s) f body frame marks (block_some s.cipher) counted inside
       ∙ ap (λ r. unless r (copies_in (block_of s) body marks) (with_frame (block_of s) (copies_in (block_of s) body marks) f frame)) granted)

@@ -1,13 +1,15 @@
 -- Verifying: what the call answers and leaves.
-use Rattle.std.proofs.Common.{◌≡◌, ℕ, ◌≤◌, Bool, true, false, eqb, leb, List, length, Ok, Err, Result, refl, ap, ◌∙◌}
-use Rattle.std.proofs.lemmas.Bool.{eqb-true, leb-true}
-use Rattle.refusals.specs.Codes.{Code, then, unless}
+use Rattle.std.proofs.Common.{◌≡◌, ℕ, ◌<◌, ◌≤◌, max, Bool, true, false, eqb, leb, List, length, Ok, Err, Result, refl, ap, ◌∙◌, inl, inr, arith}
+use Rattle.std.proofs.lemmas.Bool.{eqb-true, leb-true, lt-leb, le-leb, cases_lt}
+use Rattle.refusals.specs.declared.Reason.TheVariants.{NoSuchPage}
+use Rattle.refusals.specs.declared.Layer.TheVariants.{Download}
+use Rattle.refusals.specs.Codes.{Code, refuse, then, unless}
 use Rattle.gost.specs.Tables.{Rows}
 use Rattle.sections.specs.Entries.{Described}
 use Rattle.sections.specs.Files.{pages_end}
 use Rattle.targets.specs.State.{TargetState, page_of}
 use Rattle.downloads.specs.Copies.{sized}
-use Rattle.downloads.specs.Verdicts.{verify_judged, good_on, verify_answer, last_page, read_after}
+use Rattle.downloads.specs.Verdicts.{first_off, verify_judged, good_on, verify_answer, last_page, read_after}
 use Rattle.downloads.proofs.Answered.{ok_sized, ok_cond}
 
 sized-then : {X Y : Type 0} (right : Bool) (first : Result X Code) (next : X → Result Y Code) → then (sized right first) next ≡ sized right (then first next)
@@ -19,6 +21,21 @@ verify_granted s t room e =
     let a = ok_sized (eqb room t.page_length) (verify_judged s t) tt e in
     let b = ok_cond (leb (pages_end t.page_length s) t.page_count) (Ok tt) _ tt a.1 in
     (eqb-true room t.page_length a.0, leb-true (pages_end t.page_length s) t.page_count b.0)
+
+-- what is told of the image's end
+module _ (s : Described) (t : TargetState) (room : ℕ) (right : eqb room t.page_length ≡ true) where
+  higher : max s.first_page t.page_count ≡ first_off s t
+  higher =
+      elim (cases_lt s.first_page t.page_count) [
+        | inl low ↦ rw (lt-leb t.page_count s.first_page low) (omega arith)
+        | inr high ↦ rw (le-leb t.page_count s.first_page high) (omega arith)
+      ]
+
+  pub verify_past : (place : ℕ) → t.page_count < pages_end t.page_length s → place ≡ max s.first_page t.page_count → Err (refuse NoSuchPage place Download) ≡ sized (eqb room t.page_length) (verify_judged s t)
+  verify_past place over e = rw (right, lt-leb (pages_end t.page_length s) t.page_count over) (ap (λ (k : ℕ). Err (refuse NoSuchPage k Download)) (e ∙ higher))
+
+  pub verify_there : pages_end t.page_length s ≤ t.page_count → Ok tt ≡ sized (eqb room t.page_length) (verify_judged s t)
+  verify_there h = rw (right, le-leb (pages_end t.page_length s) t.page_count h)
 
 module _ (rows : Rows) (key : List ℕ) (s : Described) (t : TargetState) (out : List ℕ) where
   abbrev judged : Result Unit Code

@@ -1,6 +1,7 @@
 pub mod Marks
 pub mod Copies
 pub mod Frames
+pub mod Received
 pub mod Blocks
 pub mod Pages
 pub mod Verdicts

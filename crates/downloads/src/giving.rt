@@ -3,13 +3,11 @@
 ghost use Rattle.std.specs.Prelude.{◌≡◌, ◌+◌, ◌-◌, ◌<◌, true, ◌&&◌, length, Some, None, ◌==◌};
 ghost use Rattle.refusals.specs.Codes.{answer, outcome};
 ghost use Rattle.sections.specs.Meaning.{meaning_of};
-ghost use Rattle.downloads.specs.Marks.{marks_in};
-ghost use Rattle.downloads.specs.Copies.{copies_in};
-ghost use Rattle.downloads.specs.Frames.{block_of, good_store};
+ghost use Rattle.downloads.specs.Frames.{block_of};
+ghost use Rattle.downloads.specs.Received.{body_in, marks_of, copies_of, stores};
 ghost use Rattle.downloads.specs.Blocks.{first_needed, give_judged, give_answer, out_after};
 
-use crate::arrivals::ArrivalRecord;
-use crate::frames::good_store;
+use crate::received::{Received, belongs, refused_at, sized};
 use blocks::BlockCipher;
 use modes::block::decipher_block;
 use modes::mode::Mode;
@@ -22,43 +20,21 @@ pub(crate) fn first_needed(mode: Mode, i: u32) -> u32
 {
     match mode {
         Mode::Codebook | Mode::Counter => i,
-        Mode::Feedback if i == 0 => 0,
-        Mode::Feedback => i - 1,
+        Mode::Feedback => i.saturating_sub(1),
     }
 }
 
 /// Whether the section has block `i` and every cipher block that it depends on has arrived.
-fn judge_block(
-    section: &Section,
-    body: &[u8],
-    arrivals: &ArrivalRecord,
-    i: u32,
-) -> Result<(), Refusal>
-    requires { good_store (meaning_of section.now) (length body.now) (length (marks_in arrivals.now)) ≡ true }
-    ensures { outcome result ≡ give_judged (meaning_of section.now) (copies_in (block_of (meaning_of section.now)) body.now (marks_in arrivals.now)) i }
+fn judge_block(section: &Section, received: &Received<'_>, i: u32) -> Result<(), Refusal>
+    requires { stores (meaning_of section.now) received.now ≡ true }
+    ensures { outcome result ≡ give_judged (meaning_of section.now) (copies_of (block_of (meaning_of section.now)) received.now) i }
 {
-    if i as usize >= arrivals.blocks() {
+    if i as usize >= received.arrivals.blocks() {
         return Err(Refusal::new(Reason::BadBlock, i, Layer::Download));
     }
-    match arrivals.first_missing(first_needed(section.mode, i), i + 1) {
-        Some(block) => Err(Refusal::new(Reason::MissingBlock, block, Layer::Download)),
-        None => Ok(()),
-    }
-}
-
-/// Whether the cipher, the body and the record are the section's, and a buffer has so many bytes as
-/// it must have.
-pub(crate) fn good_parts(
-    section: &Section,
-    n: usize,
-    body: usize,
-    blocks: usize,
-    room: usize,
-    wanted: usize,
-) -> bool
-    ensures { result ≡ (n == block_of (meaning_of section.now) && (good_store (meaning_of section.now) body blocks && room == wanted)) }
-{
-    n == section.cipher.block_length() && good_store(section, body, blocks) && room == wanted
+    let from = first_needed(section.mode, i);
+    let missing = received.arrivals.first_missing(from, i + 1);
+    refused_at(Reason::MissingBlock, missing)
 }
 
 /// Gives plain block `i`: writes it to the front of a buffer of a block's length, whose rest stays as
@@ -68,25 +44,15 @@ pub(crate) fn good_parts(
 pub fn give<C: BlockCipher>(
     section: &Section,
     cipher: &C,
-    body: &[u8],
-    arrivals: &ArrivalRecord,
+    received: &Received<'_>,
     i: u32,
     out: &mut [u8],
 ) -> Result<usize, Refusal>
-    ensures answer { answer (λ count. count) result ≡ give_answer (C.BlockCipher.map cipher.now) (meaning_of section.now) (length body.now) (length (marks_in arrivals.now)) (copies_in (block_of (meaning_of section.now)) body.now (marks_in arrivals.now)) i (length out.old) }
-    ensures out { out.new ≡ out_after (C.BlockCipher.map cipher.now) (meaning_of section.now) (length body.now) (length (marks_in arrivals.now)) (copies_in (block_of (meaning_of section.now)) body.now (marks_in arrivals.now)) i out.old }
+    ensures answer { answer (λ count. count) result ≡ give_answer (C.BlockCipher.map cipher.now) (meaning_of section.now) (length (body_in received.now)) (length (marks_of received.now)) (copies_of (block_of (meaning_of section.now)) received.now) i (length out.old) }
+    ensures out { out.new ≡ out_after (C.BlockCipher.map cipher.now) (meaning_of section.now) (length (body_in received.now)) (length (marks_of received.now)) (copies_of (block_of (meaning_of section.now)) received.now) i out.old }
 {
-    let n = cipher.block_length();
-    if !good_parts(
-        section,
-        n,
-        body.len(),
-        arrivals.blocks(),
-        out.len(),
-        section.cipher.block_length(),
-    ) {
-        return Err(Refusal::new(Reason::WrongBuffer, 0, Layer::Download));
-    }
-    judge_block(section, body, arrivals, i)?;
-    decipher_block(cipher, section.mode, section.sync, body, i, out)
+    sized(belongs(section, cipher, received))?;
+    sized(out.len() == section.cipher.block_length())?;
+    judge_block(section, received, i)?;
+    decipher_block(cipher, section.mode, section.sync, received.body, i, out)
 }

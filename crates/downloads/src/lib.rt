@@ -20,5 +20,6 @@ pub mod frames;
 pub mod giving;
 mod marking;
 pub mod pages;
+pub mod received;
 pub mod state;
 pub mod verifying;

@@ -2,24 +2,13 @@
 
 ghost use Rattle.std.specs.Prelude.{◌≡◌, ◌+◌, ◌-◌, ◌≤◌, length, replicate};
 ghost use Rattle.refusals.specs.Codes.{answer};
-ghost use Rattle.downloads.specs.Marks.{has_arrived, arrived_at, marks_in, new_record, missing_from, marked_from};
+ghost use Rattle.downloads.specs.Marks.{arrived_at, marks_in, new_record, missing_from, marked_from};
 
 use crate::arrivals::{Arrival, ArrivalRecord};
 use refusals::{Layer, Reason, Refusal};
 
 /// The most blocks that a body has: 16,384 bytes in blocks of eight.
 const MOST_BLOCKS: usize = 2048;
-
-impl Arrival {
-    fn has_arrived(self) -> bool
-        ensures { result ≡ has_arrived self }
-    {
-        match self {
-            Arrival::Missing => false,
-            Arrival::Arrived => true,
-        }
-    }
-}
 
 impl ArrivalRecord {
     /// A record of so many blocks, none of which has arrived. More than 2,048 are refused.
@@ -46,22 +35,14 @@ impl ArrivalRecord {
     pub fn has(&self, block: usize) -> bool
         ensures { result ≡ arrived_at (marks_in self.now) block }
     {
-        if block >= self.count {
-            return false;
-        }
-        self.marks[block].has_arrived()
+        self.marks[..self.count].get(block) == Some(&Arrival::Arrived)
     }
 
     /// The lowest block that has not arrived, of those from `from` on and before `end`.
     pub fn first_missing(&self, from: u32, end: u32) -> Option<u32>
         ensures { result ≡ missing_from (marks_in self.now) from (end - from) }
     {
-        for k in from..end {
-            if !self.has(k as usize) {
-                return Some(k);
-            }
-        }
-        None
+        (from..end).find(|k| !self.has(*k as usize))
     }
 
     /// Forgets every arrival.

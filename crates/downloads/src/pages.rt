@@ -8,14 +8,12 @@ ghost use Rattle.refusals.specs.Codes.{outcome, code_of, refuse};
 ghost use Rattle.refusals.specs.declared.Reason.TheVariants.{NoSuchPage};
 ghost use Rattle.refusals.specs.declared.Layer.TheVariants.{Download as DownloadLayer};
 ghost use Rattle.sections.specs.Meaning.{meaning_of};
-ghost use Rattle.targets.specs.State.{TargetState};
-ghost use Rattle.downloads.specs.Marks.{marks_in};
-ghost use Rattle.downloads.specs.Copies.{copies_in};
-ghost use Rattle.downloads.specs.Frames.{block_of, blocks_of, good_store};
+ghost use Rattle.downloads.specs.Frames.{block_of, blocks_of};
+ghost use Rattle.downloads.specs.Received.{body_in, marks_of, copies_of, stores};
 ghost use Rattle.downloads.specs.Pages.{first_in, count_in, filled_up, place_of, page_judged, program_page_answer, target_programmed, buffer_after};
 
-use crate::arrivals::ArrivalRecord;
-use crate::giving::{first_needed, good_parts};
+use crate::giving::first_needed;
+use crate::received::{Received, belongs, refused_at, sized};
 use blocks::BlockCipher;
 use modes::block::decipher_block;
 use refusals::{Layer, Reason, Refusal};
@@ -37,6 +35,7 @@ fn decipher_blocks<C: BlockCipher>(
     ensures { page.new ≡ front (joined (plain_of (C.BlockCipher.map cipher.now) (meaning_of section.now).mode (meaning_of section.now).sync body.now) from count) page.old }
 {
     let n = cipher.block_length();
+    // By index: after a loop over chunks_mut a proof knows no element.
     for b in 0..count {
         let at = n * b as usize;
         let part = &mut page[at..at + n];
@@ -61,7 +60,7 @@ fn prepare<C: BlockCipher>(
     let n = cipher.block_length();
     let per = page.len() / n;
     let from = j as usize * per;
-    let count = per.min((body.len() + n - 1) / n - from);
+    let count = per.min(body.len().div_ceil(n) - from);
     decipher_blocks(section, cipher, body, from as u32, count as u32, page);
     let end = page.len().min(body.len() - n * from);
     page[end..].fill(fill);
@@ -77,31 +76,27 @@ fn no_such_page(page: u64) -> Refusal
 
 /// Whether image page `j` can be made for a target: the image and the target have it, and every
 /// cipher block that it needs has arrived.
-fn judge_page(
+fn judge_page<T: Target>(
     section: &Section,
-    body: &[u8],
-    arrivals: &ArrivalRecord,
-    page_length: u32,
-    page_count: u32,
+    received: &Received<'_>,
+    target: &T,
     j: u16,
 ) -> Result<(), Refusal>
-    requires store { good_store (meaning_of section.now) (length body.now) (length (marks_in arrivals.now)) ≡ true }
-    requires page { allowed_length page_length ≡ true }
-    ensures { (t : TargetState) → t.page_length ≡ page_length → t.page_count ≡ page_count → outcome result ≡ page_judged (meaning_of section.now) t (copies_in (block_of (meaning_of section.now)) body.now (marks_in arrivals.now)) j }
+    requires { stores (meaning_of section.now) received.now ≡ true }
+    ensures { outcome result ≡ page_judged (meaning_of section.now) (T.Target.state target.now) (copies_of (block_of (meaning_of section.now)) received.now) j }
 {
     let j = u32::from(j);
+    let long = target.page_length();
     let place = u64::from(section.first_page) + u64::from(j);
-    let page_count = u64::from(page_count);
-    if j * page_length >= section.length || place >= page_count {
+    if j * long >= section.length || place >= u64::from(target.page_count()) {
         return Err(no_such_page(place));
     }
-    let per = page_length / section.cipher.block_length() as u32;
+    let per = long / section.cipher.block_length() as u32;
     let from = j * per;
-    let end = (from + per).min(arrivals.blocks() as u32);
-    match arrivals.first_missing(first_needed(section.mode, from), end) {
-        Some(block) => Err(Refusal::new(Reason::MissingBlock, block, Layer::Download)),
-        None => Ok(()),
-    }
+    let needed = first_needed(section.mode, from);
+    let end = (from + per).min(received.arrivals.blocks() as u32);
+    let missing = received.arrivals.first_missing(needed, end);
+    refused_at(Reason::MissingBlock, missing)
 }
 
 /// Programs image page `j`, counted by the target's page length: prepares it in a page buffer, with
@@ -113,28 +108,26 @@ pub fn program<C: BlockCipher, T: Target>(
     section: &Section,
     cipher: &C,
     target: &mut T,
-    body: &[u8],
-    arrivals: &ArrivalRecord,
+    received: &Received<'_>,
     j: u16,
     page: &mut [u8],
 ) -> Result<(), Refusal>
-    ensures answer { outcome result ≡ program_page_answer (C.BlockCipher.map cipher.now) (meaning_of section.now) (length body.now) (length (marks_in arrivals.now)) (T.Target.state target.old) (copies_in (block_of (meaning_of section.now)) body.now (marks_in arrivals.now)) (length page.old) j }
-    ensures target { T.Target.state target.new ≡ target_programmed (C.BlockCipher.map cipher.now) (meaning_of section.now) (length body.now) (length (marks_in arrivals.now)) (T.Target.state target.old) (copies_in (block_of (meaning_of section.now)) body.now (marks_in arrivals.now)) (length page.old) j }
-    ensures page { page.new ≡ buffer_after (C.BlockCipher.map cipher.now) (meaning_of section.now) (length body.now) (length (marks_in arrivals.now)) (T.Target.state target.old) (copies_in (block_of (meaning_of section.now)) body.now (marks_in arrivals.now)) j page.old }
+    ensures answer { outcome result ≡ program_page_answer (C.BlockCipher.map cipher.now) (meaning_of section.now) (length (body_in received.now)) (length (marks_of received.now)) (T.Target.state target.old) (copies_of (block_of (meaning_of section.now)) received.now) (length page.old) j }
+    ensures target { T.Target.state target.new ≡ target_programmed (C.BlockCipher.map cipher.now) (meaning_of section.now) (length (body_in received.now)) (length (marks_of received.now)) (T.Target.state target.old) (copies_of (block_of (meaning_of section.now)) received.now) (length page.old) j }
+    ensures page { page.new ≡ buffer_after (C.BlockCipher.map cipher.now) (meaning_of section.now) (length (body_in received.now)) (length (marks_of received.now)) (T.Target.state target.old) (copies_of (block_of (meaning_of section.now)) received.now) j page.old }
 {
-    let long = target.page_length();
-    if !good_parts(
+    let long = target.page_length() as usize;
+    sized(belongs(section, cipher, received))?;
+    sized(page.len() == long)?;
+    judge_page(section, received, target, j)?;
+    prepare(
         section,
-        cipher.block_length(),
-        body.len(),
-        arrivals.blocks(),
-        page.len(),
-        long as usize,
-    ) {
-        return Err(Refusal::new(Reason::WrongBuffer, 0, Layer::Download));
-    }
-    judge_page(section, body, arrivals, long, target.page_count(), j)?;
-    prepare(section, cipher, body, target.fill(), u32::from(j), page);
+        cipher,
+        received.body,
+        target.fill(),
+        u32::from(j),
+        page,
+    );
     let place = section.first_page + u32::from(j);
     target.program(place, page)
 }

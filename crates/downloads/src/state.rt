@@ -2,21 +2,21 @@
 
 ghost use Rattle.std.specs.Prelude.{◌≡◌};
 ghost use Rattle.sections.specs.Meaning.{meaning_of};
-ghost use Rattle.downloads.specs.States.{receiving_of, closed_of};
+ghost use Rattle.downloads.specs.States.{section_in};
 
 use sections::section::Section;
 
-/// A download that takes frames.
+/// A download: one that takes frames, or one that is closed. The state is part of its type.
 #[derive(Drop)]
-pub struct Receiving {
+pub struct Download<const CLOSED: bool> {
     pub(crate) section: Section,
 }
 
+/// A download that takes frames.
+pub type Receiving = Download<false>;
+
 /// A download that has every block, and can be verified.
-#[derive(Drop)]
-pub struct Closed {
-    pub(crate) section: Section,
-}
+pub type Closed = Download<true>;
 
 /// A call that was refused, with the state that it was handed.
 #[derive(Drop)]
@@ -41,19 +41,10 @@ pub struct Verified {
     pub verdict: Verdict,
 }
 
-impl Receiving {
-    /// The section that is received.
+impl<const CLOSED: bool> Download<CLOSED> {
+    /// The section that is received, or was.
     pub fn section(&self) -> Section
-        ensures { meaning_of result ≡ receiving_of self.now }
-    {
-        self.section
-    }
-}
-
-impl Closed {
-    /// The section that was received.
-    pub fn section(&self) -> Section
-        ensures { meaning_of result ≡ closed_of self.now }
+        ensures { meaning_of result ≡ section_in self.now }
     {
         self.section
     }

@@ -1,23 +1,14 @@
-use Rattle.std.proofs.Common.{ℕ, ◌+◌, ◌-◌, ◌<◌, Some, None, ap, ◌∙◌, subst}
-use Rattle.refusals.specs.declared.Reason.TheVariants.{MissingBlock}
-use Rattle.refusals.specs.declared.Layer.TheVariants.{Download}
+use Rattle.std.proofs.Common.{ℕ, ◌+◌, ◌-◌, ◌<◌, ap, ◌∙◌, subst}
 use Rattle.sections.specs.Meaning.{meaning_of}
-use Rattle.downloads.specs.Marks.{marks_in, missing_from}
-use Rattle.downloads.proofs.Answered.{told}
+use Rattle.downloads.specs.Marks.{missing_from}
+use Rattle.downloads.specs.Received.{body_in, marks_of}
 use Rattle.downloads.proofs.Given.{give_found}
 use Rattle.downloads.proofs.giving.judge_block.Goals as goal
 
-pub returns-in-Some : goal.returns-in-Some
-returns-in-Some c =
-    let marks = marks_in c.args.arrivals.now in
+pub returns : goal.returns
+returns c =
+    let r = c.args.received.now in
     let i = c.args.i in
-    told c.new-in-Some.result MissingBlock c.in-Some.block Download c.new-in-Some.ensures
-    ∙ give_found (meaning_of c.args.section.now) c.args.body.now marks i c.requires (Some c.in-Some.block) (subst (λ (m : ℕ). i < m) c.blocks-2.ensures c.if-i-blocks.false)
-    (c.in-Some.ensures ∙ ap (λ (k : ℕ). missing_from marks k (i + 1 - k)) c.first_needed.ensures)
-
-pub returns-in-None : goal.returns-in-None
-returns-in-None c =
-    let marks = marks_in c.args.arrivals.now in
-    let i = c.args.i in
-    give_found (meaning_of c.args.section.now) c.args.body.now marks i c.requires None (subst (λ (m : ℕ). i < m) c.blocks-2.ensures c.if-i-blocks.false)
-    (c.in-None.ensures ∙ ap (λ (k : ℕ). missing_from marks k (i + 1 - k)) c.first_needed.ensures)
+    c.refused_at.ensures
+    ∙ give_found (meaning_of c.args.section.now) (body_in r) (marks_of r) i c.requires c.first_missing-missing.result (subst (λ (m : ℕ). i < m) c.blocks-2.ensures c.if-i-blocks.false)
+    (c.first_missing-missing.ensures ∙ ap (λ (k : ℕ). missing_from (marks_of r) k (i + 1 - k)) c.first_needed-from.ensures)

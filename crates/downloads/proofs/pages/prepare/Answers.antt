@@ -6,45 +6,25 @@ use Rattle.sections.specs.Meaning.{meaning_of}
 use Rattle.downloads.specs.Frames.{block_of, blocks_of}
 use Rattle.downloads.specs.Pages.{first_in, count_in}
 use Rattle.downloads.proofs.Answered.{image_small}
-use Rattle.downloads.proofs.Prepared.{run_length, fill_rest, page_small, page_ends, page_fits, page_holds, first_is, first_low, count_is, begin_is, first_small}
+use Rattle.downloads.proofs.Prepared.{run_length, fill_rest, page_ends, page_holds, first_is, first_low, count_is, begin_is}
 use Rattle.downloads.proofs.pages.prepare.Goals as goal
 
-pub overflow_sub-body-2 : goal.overflow_sub-body-2
-overflow_sub-body-2 g c =
+pub overflow_sub-div_ceil : goal.overflow_sub-div_ceil
+overflow_sub-div_ceil g c =
     let s = meaning_of c.args.section.now in
-    first_low s c.block_length-n.result (length c.args.body.now) (length c.args.page.now) c.args.j (c.block_length-n.ensures.value ∙ c.requires.parts.0) c.requires.parts.1 (image_small s.length c.args.section.now.allowed) c.requires.page c.requires.inside
+    first_low s c.block_length-n.result (length c.args.body.now) (length c.args.page.now) c.args.j c.div_ceil.result (c.block_length-n.ensures.value ∙ c.requires.parts.0) c.requires.parts.1 c.div_ceil.ensures (image_small s.length c.args.section.now.allowed) c.requires.page c.requires.inside
 
-pub overflow_cast-from-2 : goal.overflow_cast-from-2
-overflow_cast-from-2 g c =
+pub decipher_blocks-requires-clause-blocks : goal.decipher_blocks-requires-clause-blocks
+decipher_blocks-requires-clause-blocks g c =
     let s = meaning_of c.args.section.now in
-    omega (arith, first_small s c.block_length-n.result (length c.args.body.now) (length c.args.page.now) c.args.j (c.block_length-n.ensures.value ∙ c.requires.parts.0) c.requires.parts.1 (image_small s.length c.args.section.now.allowed) c.requires.page c.requires.inside)
+    let first = first_is s c.block_length-n.result (length c.args.body.now) (length c.args.page.now) c.args.j c.div_ceil.result (c.block_length-n.ensures.value ∙ c.requires.parts.0) c.requires.parts.1 c.div_ceil.ensures (image_small s.length c.args.section.now.allowed) c.requires.page c.requires.inside in
+    let count : c.min-count.result ≡ count_in (length c.args.page.now) s c.args.j = c.min-count.ensures ∙ count_is s c.block_length-n.result (length c.args.body.now) (length c.args.page.now) c.args.j c.div_ceil.result (c.block_length-n.ensures.value ∙ c.requires.parts.0) c.requires.parts.1 c.div_ceil.ensures (image_small s.length c.args.section.now.allowed) c.requires.page c.requires.inside in
+    subst (λ (k : ℕ). k ≤ blocks_of s) (ap₂ (λ (a b : ℕ). a + b) (sym first) (sym count)) (page_ends s (length c.args.page.now) c.args.j c.requires.page c.requires.inside)
 
-pub decipher_blocks-requires : goal.decipher_blocks-requires
-decipher_blocks-requires g c =
+pub overflow_sub-body : goal.overflow_sub-body
+overflow_sub-body g c =
     let s = meaning_of c.args.section.now in
-    let P = length c.args.page.now in
-    let j = c.args.j in
-    let size = c.block_length-n.ensures.value ∙ c.requires.parts.0 in
-    let small = image_small s.length c.args.section.now.allowed in
-    let first = first_is s c.block_length-n.result (length c.args.body.now) P j size c.requires.parts.1 small c.requires.page c.requires.inside in
-    let count : c.min-count.result ≡ count_in P s j = c.min-count.ensures ∙ count_is s c.block_length-n.result (length c.args.body.now) P j size c.requires.parts.1 small c.requires.page c.requires.inside in
-    record {
-      parts = c.requires.parts;
-      blocks = subst (λ (k : ℕ). k ≤ blocks_of s) (ap₂ (λ (a b : ℕ). a + b) (sym first) (sym count)) (page_ends s P j c.requires.page c.requires.inside);
-      room = (subst (λ (k : ℕ). block_of s * k ≤ P) (sym count) (page_fits s P j c.requires.page c.requires.inside), page_small s P j c.requires.page);
-    }
-
-pub overflow_mul-n : goal.overflow_mul-n
-overflow_mul-n g c =
-    let s = meaning_of c.args.section.now in
-    let small = image_small s.length c.args.section.now.allowed in
-    omega (arith, c.requires.inside, small, begin_is s c.block_length-n.result (length c.args.body.now) (length c.args.page.now) c.args.j (c.block_length-n.ensures.value ∙ c.requires.parts.0) c.requires.parts.1 small c.requires.page c.requires.inside)
-
-pub overflow_sub-body-3 : goal.overflow_sub-body-3
-overflow_sub-body-3 g c =
-    let s = meaning_of c.args.section.now in
-    let small = image_small s.length c.args.section.now.allowed in
-    omega (arith, c.requires.inside, c.requires.parts.1, begin_is s c.block_length-n.result (length c.args.body.now) (length c.args.page.now) c.args.j (c.block_length-n.ensures.value ∙ c.requires.parts.0) c.requires.parts.1 small c.requires.page c.requires.inside)
+    omega (arith, c.requires.inside, c.requires.parts.1, begin_is s c.block_length-n.result (length c.args.body.now) (length c.args.page.now) c.args.j c.div_ceil.result (c.block_length-n.ensures.value ∙ c.requires.parts.0) c.requires.parts.1 c.div_ceil.ensures (image_small s.length c.args.section.now.allowed) c.requires.page c.requires.inside)
 
 pub returns : goal.returns
 returns g c =
@@ -59,8 +39,8 @@ returns g c =
     let long = c.requires.parts.1 in
     let small = image_small s.length c.args.section.now.allowed in
     let plain : ℕ → List ℕ = plain_of map s.mode s.sync body in
-    let first = first_is s n (length body) P j size long small c.requires.page c.requires.inside in
-    let count : c.min-count.result ≡ count_in P s j = c.min-count.ensures ∙ count_is s n (length body) P j size long small c.requires.page c.requires.inside in
+    let first = first_is s n (length body) P j c.div_ceil.result size long c.div_ceil.ensures small c.requires.page c.requires.inside in
+    let count : c.min-count.result ≡ count_in P s j = c.min-count.ensures ∙ count_is s n (length body) P j c.div_ceil.result size long c.div_ceil.ensures small c.requires.page c.requires.inside in
     let J : List ℕ = joined plain (first_in P s j) (count_in P s j) in
     let page = c.decipher_blocks.new.page in
     let made : page ≡ front J was = c.decipher_blocks.ensures ∙ ap₂ (λ (a b : ℕ). front (joined plain a b) was) first count in

@@ -8,4 +8,4 @@ use Rattle.downloads.proofs.verifying.value_on.Given as goal
 abbrev pub invariant-loop-k : goal.invariant-loop-k
 invariant-loop-k g l =
     (map_in l.chain ≡ sixteen (rows_of l.table) l.tag_key)
-    × Summed (meaning_of l.section) (g.T.Target.state l.target) (sixteen (rows_of l.table) l.tag_key) l.k l.left (state_in l.chain) l.page
+    × Summed (meaning_of l.section) (g.T.Target.state l.target) (sixteen (rows_of l.table) l.tag_key) l.k (state_in l.chain) l.page

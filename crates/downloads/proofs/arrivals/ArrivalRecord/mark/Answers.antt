@@ -3,17 +3,8 @@ use lib.ListN.{length-replicate}
 use Rattle.downloads.specs.declared.arrivals.Arrival.{Arrival}
 use Rattle.downloads.specs.declared.arrivals.Arrival.TheVariants.{Arrived}
 use Rattle.downloads.specs.Marks.{put_at}
-use Rattle.downloads.proofs.Parts.{put_mid_lem, put_length, put_within}
+use Rattle.downloads.proofs.Parts.{put_mid_lem, put_within}
 use Rattle.downloads.proofs.arrivals.ArrivalRecord.mark.Goals as goal
-
-pub invariant_of-self : goal.invariant_of-self
-invariant_of-self c =
-    let r = c.args.self.now in
-    let first = c.args.first in
-    let blocks = c.args.blocks in
-    let room : first + blocks ≤ length r.marks = omega (arith, c.requires, length-take-le r.count r.marks (omega (arith, r.full, r.within)), r.full, r.within) in
-    let long : length c.fill.new.self ≡ first + blocks - first = c.fill.ensures.len ∙ simp (length-take, length-drop) (omega arith) in
-    record { full = ap length (put_mid_lem first (first + blocks - first) r.marks c.fill.new.self (sym long)) ∙ (put_length first c.fill.new.self r.marks (omega arith) ∙ r.full); within = r.within }
 
 pub returns : goal.returns
 returns c =
