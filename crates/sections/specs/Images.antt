@@ -1,5 +1,5 @@
 -- Block lengths, image lengths and pages.
-use Rattle.std.specs.Prelude.{ℕ, ◌+◌, ◌-◌, ◌/◌, Bool, ◌&&◌, nat_le}
+use Rattle.std.specs.Prelude.{ℕ, ◌+◌, ◌-◌, ◌/◌, Bool, ◌&&◌, List, nat_le, codes}
 use Rattle.sections.specs.declared.kind.CipherKind.{CipherKind}
 use Rattle.sections.specs.declared.kind.CipherKind.TheVariants.{Gost, Kuznyechik}
 
@@ -7,6 +7,11 @@ use Rattle.sections.specs.declared.kind.CipherKind.TheVariants.{Gost, Kuznyechik
 abbrev pub block_length : CipherKind → ℕ
 block_length Gost = 8
 block_length Kuznyechik = 16
+
+-- the name of a cipher as it is written
+abbrev pub cipher_text : CipherKind → List ℕ
+cipher_text Gost = codes "gost"
+cipher_text Kuznyechik = codes "kuznyechik"
 
 -- an image has 9 to 16,384 bytes
 abbrev pub allowed_image : ℕ → Bool

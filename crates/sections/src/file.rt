@@ -155,6 +155,13 @@ impl Listing {
         Ok(self.sections[number as usize - 1])
     }
 
+    /// The sections, in order.
+    pub fn sections(&self) -> &[Section]
+        ensures { map meaning_of result.now ≡ sections_in self.now }
+    {
+        &self.sections[..self.count]
+    }
+
     /// How many sections there are.
     pub fn count(&self) -> usize
         ensures { result ≡ length (sections_in self.now) }

@@ -1,7 +1,9 @@
 //! The ciphers that a download file names.
 
-ghost use Rattle.std.specs.Prelude.{◌≡◌};
-ghost use Rattle.sections.specs.Images.{block_length};
+ghost use Rattle.std.specs.Prelude.{◌≡◌, Some};
+ghost use Rattle.sections.specs.Images.{block_length, cipher_text};
+
+use std::fmt;
 
 /// The cipher of a section.
 #[derive(Clone, Copy, PartialEq, Eq, Debug)]
@@ -21,5 +23,17 @@ impl CipherKind {
             CipherKind::Gost => 8,
             CipherKind::Kuznyechik => 16,
         }
+    }
+}
+
+/// The name of a cipher as it is written: `gost` or `kuznyechik`.
+impl fmt::Display for CipherKind {
+    ghost output = { λ k. Some (cipher_text k) };
+
+    fn fmt<W: fmt::Write>(&self, f: &mut fmt::Formatter<W>) -> fmt::Result {
+        f.write_str(match self {
+            CipherKind::Gost => "gost",
+            CipherKind::Kuznyechik => "kuznyechik",
+        })
     }
 }
