@@ -3,3 +3,4 @@ pub mod Modes
 pub mod Calls
 pub mod Laws
 pub mod Steps
+pub mod Shown

@@ -1,5 +1,10 @@
 //! Modes and syncs.
 
+ghost use Rattle.std.specs.Prelude.{Some};
+ghost use Rattle.modes.specs.Shown.{mode_text};
+
+use std::fmt;
+
 /// How the blocks of a text are enciphered.
 #[derive(Clone, Copy, PartialEq, Eq, Debug)]
 pub enum Mode {
@@ -16,4 +21,17 @@ pub enum Mode {
 pub struct Sync {
     pub first: u64,
     pub second: u64,
+}
+
+/// The word by which a mode is printed.
+impl fmt::Display for Mode {
+    ghost output = { λ m. Some (mode_text m) };
+
+    fn fmt<W: fmt::Write>(&self, f: &mut fmt::Formatter<W>) -> fmt::Result {
+        match self {
+            Mode::Codebook => write!(f, "codebook"),
+            Mode::Counter => write!(f, "counter"),
+            Mode::Feedback => write!(f, "feedback"),
+        }
+    }
 }
