@@ -45,7 +45,7 @@ mod tests {
         let bits = TagLength::new(bits)?;
         assert!(rt; length <= 17);
         let text = TEXT;
-        Ok(imitovstavka(&table, &words, bits, &text[0..length])?)
+        Ok(imitovstavka(Gost::new(&table, &words), bits, &text[0..length])?)
     }
 
     #[test]
@@ -124,7 +124,7 @@ mod tests {
     fn a_text_has_nine_bytes(rt: HostRuntime) -> Result<(), Fail> {
         let table = SubstitutionTable::new(TABLE_A)?;
         let bits = TagLength::new(32)?;
-        match imitovstavka(&table, &[0; 8], bits, &[1; 8]) {
+        match imitovstavka(Gost::new(&table, &[0; 8]), bits, &[1; 8]) {
             Ok(_) => Err(Fail::new("eight bytes were accepted")),
             Err(why) => refused(&rt, why, 6, 0, 2),
         }
@@ -149,7 +149,7 @@ mod tests {
         let mut words = [0; 8];
         spread_key(&KEY, &mut words)?;
         let text = TEXT;
-        let mut chain = Chain::new(&table, &words);
+        let mut chain = Chain::new(Gost::new(&table, &words));
         chain.absorb(&text[0..8]);
         chain.absorb(&[]);
         chain.absorb(&text[8..16]);

@@ -2,14 +2,14 @@
 
 ghost use Rattle.std.specs.Prelude.{◌≡◌, ℕ, ◌%◌, ◌≤◌, List, ◌++◌, length};
 ghost use Rattle.blocks.specs.Bytes.{xored, filled};
-ghost use Rattle.gost.specs.Cipher.{rows_of, sixteen};
+ghost use Rattle.gost.specs.Cipher.{sixteen};
+ghost use Rattle.gost.specs.Keyed.{rows_in, words_in};
 ghost use Rattle.imitovstavka.specs.Chain.{absorbed, start, value_of};
 ghost use Rattle.imitovstavka.specs.Parts.{bits_of, map_in, state_in};
 
 use crate::length::TagLength;
 use blocks::xor_into;
 use gost::cipher::Gost;
-use gost::table::SubstitutionTable;
 
 /// A chain with its table and tag key, borrowed, and the block that it has come to.
 #[derive(Clone, Copy)]
@@ -20,12 +20,12 @@ pub struct Chain<'a> {
 
 impl<'a> Chain<'a> {
     /// A chain at its start.
-    pub fn new(table: &'a SubstitutionTable, key: &'a [u32; 8]) -> Chain<'a>
-        ensures map { map_in result ≡ sixteen (rows_of table.now) key.now }
+    pub fn new(cipher: Gost<'a>) -> Chain<'a>
+        ensures map { map_in result ≡ sixteen (rows_in cipher.entry) (words_in cipher.entry) }
         ensures state { state_in result ≡ start }
     {
         Chain {
-            cipher: Gost::new(table, key),
+            cipher,
             state: [0; 8],
         }
     }

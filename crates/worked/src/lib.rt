@@ -10,6 +10,7 @@ ghost use Rattle.std.specs.Prelude.{◌≡◌, Ok};
 ghost use Rattle.refusals.specs.Codes.{answer};
 ghost use Rattle.worked.specs.Values.{WorkedValues};
 
+use gost::cipher::Gost;
 use gost::table::SubstitutionTable;
 use imitovstavka::imitovstavka;
 use imitovstavka::length::TagLength;
@@ -24,5 +25,9 @@ pub fn worked_values() -> Result<u32, Refusal>
 {
     let table = SubstitutionTable::new([[0; 16]; 8])?;
     let bits = TagLength::new(32)?;
-    imitovstavka(&table, &[0; 8], bits, &[1, 2, 3, 4, 5, 6, 7, 8, 0x11])
+    imitovstavka(
+        Gost::new(&table, &[0; 8]),
+        bits,
+        &[1, 2, 3, 4, 5, 6, 7, 8, 0x11],
+    )
 }
