@@ -18,7 +18,7 @@ use Rattle.sections.proofs.Listed.{next_is, table_is, too_long}
 use Rattle.packing.specs.declared.fault.Fault.{Fault}
 use Rattle.packing.specs.declared.fault.Fault.TheVariants.{Refused, Memory}
 use Rattle.packing.specs.Plans.{Work}
-use Rattle.packing.specs.Keys.{Spread, spread, keys_answer}
+use Rattle.keys.specs.Keys.{Spread, spread, keys_answer}
 use Rattle.packing.specs.Sealing.{Means, sealed_section, sealed_body, map_of}
 use Rattle.packing.specs.Packed.{parts, fitting_all, packed_file, paged_all, means_of, packed_with, packed, Answers, fault_knows}
 use Rattle.packing.specs.Laws.{Opened, HoldsFor}

@@ -6,7 +6,7 @@ use Rattle.sections.specs.Seals.{chaining_of}
 use Rattle.sections.specs.Written.{body_of}
 use Rattle.description.specs.Judge.{Described as Target}
 use Rattle.packing.specs.Plans.{Work}
-use Rattle.packing.specs.Keys.{spread}
+use Rattle.keys.specs.Keys.{spread}
 use Rattle.packing.specs.Sealing.{Means, sealed_section, map_of}
 use Rattle.packing.specs.Packed.{parts, means_of}
 

@@ -10,7 +10,7 @@ use Rattle.sections.specs.Written.{Part, written}
 use Rattle.packing.specs.declared.fault.Fault.{Fault}
 use Rattle.packing.specs.declared.fault.Fault.TheVariants.{Refused, Memory}
 use Rattle.packing.specs.Plans.{Work}
-use Rattle.packing.specs.Keys.{Spread, keys_answer}
+use Rattle.keys.specs.Keys.{Spread, keys_answer}
 use Rattle.packing.specs.Sealing.{Means, fitting, part_of}
 
 -- the sections with their bodies, one after the other from an offset on

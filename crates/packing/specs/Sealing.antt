@@ -12,7 +12,8 @@ use Rattle.sections.specs.Seals.{chaining_of}
 use Rattle.sections.specs.Written.{Part}
 use Rattle.packing.specs.declared.plan.Plan.{Plan}
 use Rattle.packing.specs.Plans.{Work, mode_in, sync_words, section_of}
-use Rattle.packing.specs.Keys.{Spread, cipher_of}
+use Rattle.keys.specs.Keys.{Spread}
+use Rattle.packing.specs.Keys.{cipher_of}
 
 -- 1 to 32 bits, and a sync as its cipher and mode take it
 abbrev pub good_plan : Plan → Bool

@@ -3,14 +3,14 @@
 ghost use Rattle.std.specs.Prelude.{◌≤◌, map, length, vec_items};
 ghost use Rattle.gost.specs.Cipher.{rows_of};
 ghost use Rattle.packing.specs.Plans.{work_of};
-ghost use Rattle.packing.specs.Keys.{spread_in};
+ghost use Rattle.keys.specs.Keys.{spread_in};
 ghost use Rattle.packing.specs.Steps.{Filled};
 
 use crate::fault::Fault;
-use crate::keys::SpreadKeys;
 use crate::plan::Planned;
 use crate::section::seal_section;
 use gost::table::SubstitutionTable;
+use keys::SpreadKeys;
 use std::alloc::Global;
 
 /// Seals every section and puts the file together: the header, the entries, the bodies.

@@ -14,7 +14,6 @@
 mod entry;
 pub mod fault;
 mod filling;
-mod keys;
 pub mod plan;
 mod section;
 
@@ -27,7 +26,7 @@ ghost use Rattle.packing.specs.Laws.{Holds};
 use description::parts::Description;
 use fault::Fault;
 use filling::fill;
-use keys::spread_keys;
+use keys::SpreadKeys;
 use plan::Planned;
 use refusals::{Layer, Reason, Refusal};
 use sections::file::list;
@@ -47,7 +46,7 @@ pub fn pack(
     ensures memory { Wanting result ((length keys.now ≡ 64) × (1 ≤ length planned.now) × (length planned.now ≤ 8)) }
     ensures holds { IfOk result (λ v. Holds (meaning_of target.now) keys.now (map work_of planned.now) v.items) }
 {
-    let keys = spread_keys(keys)?;
+    let keys = SpreadKeys::spread(keys)?;
     if planned.is_empty() || planned.len() > 8 {
         return Err(Fault::Refused(Refusal::new(Reason::BadField, 0, Layer::File)));
     }

@@ -3,16 +3,17 @@
 ghost use Rattle.std.specs.Prelude.{◌≡◌, length, take};
 ghost use Rattle.gost.specs.Cipher.{rows_of};
 ghost use Rattle.sections.specs.Images.{block_length};
-ghost use Rattle.packing.specs.Keys.{spread_in, cipher_of};
+ghost use Rattle.keys.specs.Keys.{spread_in};
+ghost use Rattle.packing.specs.Keys.{cipher_of};
 ghost use Rattle.packing.specs.Plans.{work_of};
 ghost use Rattle.packing.specs.Steps.{SealedBy, Sealing};
 
 use crate::entry::entry_of;
 use crate::fault::Fault;
-use crate::keys::SpreadKeys;
 use crate::plan::Planned;
 use gost::cipher::Gost;
 use gost::table::SubstitutionTable;
+use keys::SpreadKeys;
 use kuznyechik::cipher::Kuznyechik;
 use refusals::Refusal;
 use sections::kind::CipherKind;

@@ -9,7 +9,7 @@ use Rattle.description.specs.Meaning.{meaning_of}
 use Rattle.sections.specs.Files.{listed}
 use Rattle.sections.specs.Meaning.{sections_in}
 use Rattle.packing.specs.Plans.{work_of}
-use Rattle.packing.specs.Keys.{Spread, spread_in}
+use Rattle.keys.specs.Keys.{Spread, spread_in}
 use Rattle.packing.specs.Packed.{means_of}
 use Rattle.packing.specs.Laws.{HoldsFor}
 use Rattle.packing.proofs.Granted.{with_keys, keys_are, too_few, too_many, fault_told, as_listed, holds_for, fault_known, keys_long}

@@ -1,7 +1,7 @@
 use Rattle.std.proofs.Common.{◌+◌, map, drop, vec_items}
 use Rattle.gost.specs.Cipher.{rows_of}
 use Rattle.packing.specs.Plans.{work_of}
-use Rattle.packing.specs.Keys.{spread_in}
+use Rattle.keys.specs.Keys.{spread_in}
 use Rattle.packing.proofs.Filled.{Held}
 use Rattle.packing.proofs.filling.fill.Given as goal
 
