@@ -32,9 +32,32 @@ count_rest n bytes h e =
     let x : bytes + n - 1 ≡ (q + 1) * n + (r - 1) = omega (arith, div-add-mod' bytes n, add-mul q 1 n, one-mul n) in
     ap (λ (k : ℕ). k / n) x ∙ div-mul-add (q + 1) n (r - 1) (omega (arith, mod_below bytes n h))
 
+-- the same by a division that rounds up
+pub count_ceil : (n m bytes : ℕ) → n ≡ m → 0 < m → bytes / n + min 1 (bytes % n) ≡ block_count m bytes
+count_ceil n m bytes e h =
+    rw e
+    (elim (cases_eq (bytes % m) 0) [
+      | inl whole ↦ omega (arith, count_whole m bytes h whole)
+      | inr rest ↦ omega (arith, count_rest m bytes h rest)
+    ])
+
+-- each of them begins in the text
+pub begins_in : (n bytes i : ℕ) → 0 < n → i < block_count n bytes → n * i < bytes
+begins_in n bytes i h l =
+    let le : i + 1 ≤ block_count n bytes = omega arith in
+    omega (arith, count_tight n bytes h, mul-le-mul_left n le, mul-add n i 1, mul-one n)
+
 -- so many whole blocks are among them
 pub count_above : (n bytes i : ℕ) → 0 < n → n * i ≤ bytes → i ≤ block_count n bytes
 count_above n bytes i h l = le-div i (bytes + n - 1) n h (omega (arith, mul_comm i n))
+
+-- as many bytes as there are, up to a block's length
+pub cut_short : (n k : ℕ) (xs : List ℕ) → k ≡ min n (length xs) → take k xs ≡ take n xs
+cut_short n k xs e =
+    elim (cases_lt n (length xs)) [
+      | inl more ↦ ap (λ (j : ℕ). take j xs) (omega arith)
+      | inr all ↦ take_all k xs (omega arith) ∙ sym (take_all n xs all)
+    ]
 
 pub length-block : (n i : ℕ) (text : List ℕ) → length (block n i text) ≡ min n (length text - n * i)
 length-block n i text = simp (length-take, length-drop) refl

@@ -50,6 +50,8 @@ pub sync_block : (n : ℕ) (sync : Option Sync) → (n ≡ 8) ⊎ (n ≡ 16) →
 sync_block n sync h =
     ⊎_elim (λ (e : n ≡ 8). subst (λ (m : ℕ). Block m (sync_bytes m sync)) (sym e) (sync_eight sync)) (λ (e : n ≡ 16). subst (λ (m : ℕ). Block m (sync_bytes m sync)) (sym e) (sync_sixteen sync)) h
 
+pub agreed_sound : (c : BlockMap) (mode : Mode) (sync : Option Sync) (bytes : ℕ) → Lawful c → agrees c.size mode sync ≡ true → whole_in mode c.size bytes ≡ true → Sound (chaining c mode sync) bytes
+agreed_sound c mode sync bytes law agreed whole = sound (chaining c mode sync) bytes law (sync_block c.size sync law.sized) (agrees_eight c.size mode sync agreed) whole
+
 pub judged_sound : (c : BlockMap) (mode : Mode) (sync : Option Sync) (bytes : ℕ) → Lawful c → mode_answer c.size mode sync bytes ≡ Ok tt → Sound (chaining c mode sync) bytes
-judged_sound c mode sync bytes law h =
-    sound (chaining c mode sync) bytes law (sync_block c.size sync law.sized) (agrees_eight c.size mode sync (judged-agrees c.size mode sync bytes h)) (judged_whole c.size mode sync bytes h)
+judged_sound c mode sync bytes law h = agreed_sound c mode sync bytes law (judged-agrees c.size mode sync bytes h) (judged_whole c.size mode sync bytes h)

@@ -22,6 +22,10 @@ plain_step Codebook c y z i pad b = c.deciphered b
 plain_step Counter c y z i pad b = xored b (mask_by Counter c y z i pad)
 plain_step Feedback c y z i pad b = xored b (mask_by Feedback c y z i pad)
 
+-- a pad has a block's length
+abbrev pub Pad : BlockMap → List ℕ → Type 0
+Pad c pad = length pad ≡ c.size
+
 -- counter has blocks of eight bytes, and codebook whole blocks
 abbrev pub Fits : Mode → ℕ → ℕ → Type 0
 Fits Codebook n bytes = bytes ≡ n
@@ -36,6 +40,4 @@ Kept Feedback n b pad = length b ≡ n → pad ≡ b
 
 -- Y and Z are the halves of the sync enciphered
 abbrev pub FromSync : Mode → List ℕ → ℕ → ℕ → Type 0
-FromSync Codebook first y z = Unit {0}
-FromSync Counter first y z = (y ≡ word (take 4 first)) × (z ≡ word (drop 4 first))
-FromSync Feedback first y z = Unit {0}
+FromSync mode first y z = mode ≡ Counter → (y ≡ word (take 4 first)) × (z ≡ word (drop 4 first))

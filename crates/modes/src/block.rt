@@ -1,60 +1,54 @@
 //! One block of a body deciphered.
 
-ghost use Rattle.std.specs.Prelude.{◌≡◌, ℕ, ◌*◌, ◌<◌, length, Ok};
+ghost use Rattle.std.specs.Prelude.{◌≡◌, ◌*◌, ◌<◌, true, length, Ok};
 ghost use Rattle.refusals.specs.Codes.{answer};
-ghost use Rattle.blocks.specs.Bytes.{Bytes, block};
-ghost use Rattle.blocks.specs.Ciphers.{Lawful};
+ghost use Rattle.blocks.specs.Bytes.{block};
 ghost use Rattle.modes.specs.Modes.{before};
-ghost use Rattle.modes.specs.Calls.{chaining, mode_answer, plain_of, block_answer, buffer_after};
+ghost use Rattle.modes.specs.Steps.{Pad};
+ghost use Rattle.modes.specs.Calls.{sync_bytes, whole_in, chaining, mode_answer, plain_of, block_answer, buffer_after};
 ghost use Rattle.modes.specs.Laws.{Reaches};
 
-use crate::masks::{decipher_one, first_counters, write_sync};
+use crate::masks::Chain;
 use crate::mode::{Mode, Sync};
 use crate::text::judge;
 use blocks::{BlockCipher, byte_count};
 use refusals::{Layer, Reason, Refusal};
 
-/// Puts into the pad what feedback enciphers for block `i`: the block before, where there is one.
-fn feed(mode: Mode, body: &[u8], i: usize, pad: &mut [u8])
-    requires inside { length pad.old * i < length body.now }
-    ensures { mode ≡ Mode.Feedback → pad.new ≡ before pad.old (λ k. block (length pad.old) k body.now) i }
-{
-    if mode == Mode::Feedback && i > 0 {
-        let n = pad.len();
-        let from = n * (i - 1);
-        pad.copy_from_slice(&body[from..from + n]);
+impl<C: BlockCipher> Chain<'_, C> {
+    /// Puts into the pad what feedback enciphers for block `i`: the sync, or the block before.
+    fn feed(&self, body: &[u8], i: usize, pad: &mut [u8])
+        requires pad { Pad (C.BlockCipher.map self.now.cipher.now) pad.old }
+        requires inside { (C.BlockCipher.map self.now.cipher.now).size * i < length body.now }
+        ensures { pad.new ≡ before (sync_bytes (C.BlockCipher.map self.now.cipher.now).size self.now.sync) (λ k. block (C.BlockCipher.map self.now.cipher.now).size k body.now) i }
+    {
+        if i == 0 {
+            self.start(pad);
+        } else {
+            let n = pad.len();
+            let from = n * (i - 1);
+            pad.copy_from_slice(&body[from..from + n]);
+        }
     }
-}
 
-/// Deciphers block `i` of a body that was judged into a part of the block's length.
-fn decipher_into<C: BlockCipher>(
-    cipher: &C,
-    mode: Mode,
-    sync: Option<Sync>,
-    body: &[u8],
-    i: usize,
-    pad: &mut [u8],
-    part: &mut [u8],
-)
-    requires lawful { Lawful (C.BlockCipher.map cipher.now) }
-    requires size { length pad.old ≡ (C.BlockCipher.map cipher.now).size }
-    requires judged { mode_answer (C.BlockCipher.map cipher.now).size mode sync (length body.now) ≡ Ok tt }
-    requires inside { length pad.old * i < length body.now }
-    requires part { length part.old ≡ length (block (length pad.old) i body.now) }
-    ensures { part.new ≡ plain_of (C.BlockCipher.map cipher.now) mode sync body.now i }
-{
-    let n = pad.len();
-    let at = n * i;
-    part.copy_from_slice(&body[at..at + part.len()]);
-    write_sync(sync, pad);
-    let from = first_counters(cipher, mode, pad);
-    feed(mode, body, i, pad);
-    decipher_one(cipher, mode, from, i as u64, pad, part);
+    /// Deciphers block `i` of a body into a part of the block's length; so long is the pad too.
+    fn decipher_into(&self, body: &[u8], i: usize, pad: &mut [u8], part: &mut [u8])
+        requires pad { Pad (C.BlockCipher.map self.now.cipher.now) pad.old }
+        requires whole { whole_in self.now.mode (C.BlockCipher.map self.now.cipher.now).size (length body.now) ≡ true }
+        requires inside { (C.BlockCipher.map self.now.cipher.now).size * i < length body.now }
+        requires part { length part.old ≡ length (block (C.BlockCipher.map self.now.cipher.now).size i body.now) }
+        ensures { part.new ≡ plain_of (C.BlockCipher.map self.now.cipher.now) self.now.mode self.now.sync body.now i }
+    {
+        let at = self.cipher.block_length() * i;
+        part.copy_from_slice(&body[at..at + part.len()]);
+        self.feed(body, i, pad);
+        self.decipher(i as u64, pad, part);
+    }
 }
 
 /// Deciphers block `i` of a body into the front of a buffer of a block's length, and says how many
 /// bytes it has. The rest of the buffer stays as it was, and all of it at a refusal: a buffer of
 /// another length; what `encipher_text` refuses; a block that there is not.
+#[tactic(auto, using(crate::proofs::Plain::reach_judged))]
 pub fn decipher_block<C: BlockCipher>(
     cipher: &C,
     mode: Mode,
@@ -78,14 +72,7 @@ pub fn decipher_block<C: BlockCipher>(
     }
     let count = n.min(body.len() - at);
     let mut pad = [0; 16];
-    decipher_into(
-        cipher,
-        mode,
-        sync,
-        body,
-        i as usize,
-        &mut pad[0..n],
-        &mut out[0..count],
-    );
+    let chain = Chain::new(cipher, mode, sync);
+    chain.decipher_into(body, i as usize, &mut pad[0..n], &mut out[0..count]);
     Ok(count)
 }

@@ -1,14 +1,14 @@
 //! A whole text enciphered in place.
 
-ghost use Rattle.std.specs.Prelude.{◌≡◌, ℕ, ◌*◌, ◌%◌, ◌<◌, true, ◌⊎◌, length, Ok};
+ghost use Rattle.std.specs.Prelude.{◌≡◌, ◌<◌, true, length, Ok};
 ghost use Rattle.refusals.specs.Codes.{outcome};
-ghost use Rattle.blocks.specs.Bytes.{Bytes, Block};
-ghost use Rattle.blocks.specs.Ciphers.{Lawful};
+ghost use Rattle.blocks.specs.Bytes.{Bytes};
 ghost use Rattle.modes.specs.Modes.{enciphered};
-ghost use Rattle.modes.specs.Calls.{agrees, whole_in, chaining, sync_bytes, mode_answer, text_after};
+ghost use Rattle.modes.specs.Steps.{Pad};
+ghost use Rattle.modes.specs.Calls.{whole_in, chaining, mode_answer, text_after};
 ghost use Rattle.modes.specs.Laws.{Undo};
 
-use crate::masks::{encipher_one, first_counters, write_sync};
+use crate::masks::Chain;
 use crate::mode::{Mode, Sync};
 use blocks::{BlockCipher, byte_count};
 use refusals::{Layer, Reason, Refusal};
@@ -33,54 +33,29 @@ pub(crate) fn judge(n: usize, mode: Mode, sync: Option<Sync>, bytes: usize) -> R
     Ok(())
 }
 
-/// Enciphers every block of a text; the pad holds the sync.
-fn encipher_blocks<C: BlockCipher>(cipher: &C, mode: Mode, pad: &mut [u8], text: &mut [u8])
-    requires lawful { Lawful (C.BlockCipher.map cipher.now) }
-    requires pad { Block (C.BlockCipher.map cipher.now).size pad.old }
-    requires eight { mode ≡ Mode.Counter → (C.BlockCipher.map cipher.now).size ≡ 8 }
-    requires whole { whole_in mode (C.BlockCipher.map cipher.now).size (length text.old) ≡ true }
-    requires bytes { Bytes text.old }
-    ensures { text.new ≡ enciphered (record { cipher = C.BlockCipher.map cipher.entry.now; mode = mode; sync = pad.old }) text.old }
-{
-    let n = pad.len();
-    let from = first_counters(cipher, mode, pad);
-    let whole = text.len() / n;
-    for i in 0..whole {
-        let at = n * i;
-        encipher_one(cipher, mode, from, i as u64, pad, &mut text[at..at + n]);
+impl<C: BlockCipher> Chain<'_, C> {
+    /// Enciphers every block of a text; the pad has a block's length.
+    fn encipher_blocks(&self, pad: &mut [u8], text: &mut [u8])
+        requires pad { Pad (C.BlockCipher.map self.now.cipher.now) pad.old }
+        requires whole { whole_in self.now.mode (C.BlockCipher.map self.now.cipher.now).size (length text.old) ≡ true }
+        requires bytes { Bytes text.old }
+        ensures { text.new ≡ enciphered (chaining (C.BlockCipher.map self.entry.now.cipher.now) self.entry.now.mode self.entry.now.sync) text.old }
+    {
+        let n = self.cipher.block_length();
+        self.start(pad);
+        let bytes = text.len();
+        // By index: after a loop over chunks_mut a proof knows no element.
+        for i in 0..bytes.div_ceil(n) {
+            let at = n * i;
+            let count = n.min(bytes - at);
+            self.encipher(i as u64, pad, &mut text[at..at + count]);
+        }
     }
-    if text.len() % n != 0 {
-        encipher_one(
-            cipher,
-            mode,
-            from,
-            whole as u64,
-            pad,
-            &mut text[n * whole..],
-        );
-    }
-}
-
-/// Enciphers a text that was judged; the pad has a block's length.
-fn encipher_judged<C: BlockCipher>(
-    cipher: &C,
-    mode: Mode,
-    sync: Option<Sync>,
-    pad: &mut [u8],
-    text: &mut [u8],
-)
-    requires lawful { Lawful (C.BlockCipher.map cipher.now) }
-    requires size { length pad.old ≡ (C.BlockCipher.map cipher.now).size }
-    requires judged { mode_answer (C.BlockCipher.map cipher.now).size mode sync (length text.old) ≡ Ok tt }
-    requires bytes { Bytes text.old }
-    ensures { text.new ≡ enciphered (chaining (C.BlockCipher.map cipher.now) mode sync) text.old }
-{
-    write_sync(sync, pad);
-    encipher_blocks(cipher, mode, pad, text);
 }
 
 /// Enciphers a text in place. A sync that does not agree with the mode, or counter with a cipher of
 /// sixteen bytes, is refused; so is a text in codebook whose length is no multiple of the block's.
+#[tactic(auto, using(crate::proofs::Plain::undo_judged))]
 pub fn encipher_text<C: BlockCipher>(
     cipher: &C,
     mode: Mode,
@@ -94,6 +69,6 @@ pub fn encipher_text<C: BlockCipher>(
     let n = cipher.block_length();
     judge(n, mode, sync, byte_count(text))?;
     let mut pad = [0; 16];
-    encipher_judged(cipher, mode, sync, &mut pad[0..n], text);
+    Chain::new(cipher, mode, sync).encipher_blocks(&mut pad[0..n], text);
     Ok(())
 }
