@@ -1,6 +1,7 @@
 -- Laws of the chain.
-use Rattle.std.proofs.Common.{◌≡◌, ℕ, zero, suc, ◌+◌, ◌-◌, ◌*◌, ◌/◌, ◌%◌, ◌≤◌, List, ◌++◌, length, take, drop, sym, refl, ap, ◌∙◌, ap₂, arith, length-drop}
-use Rattle.std.proofs.lemmas.List.{length-append, take_all, drop-drop, drop_at, take-append-le, drop-append-le, take_rest}
+use Rattle.std.proofs.Common.{◌≡◌, ℕ, zero, suc, ◌+◌, ◌*◌, ◌/◌, ◌%◌, ◌<◌, ◌≤◌, min, List, [], ◌++◌, length, take, drop, sym, refl, ap, ◌∙◌, ap₂, inl, inr, arith, append-nil, length-append, length-drop}
+use Rattle.std.proofs.lemmas.Bool.{cases_lt}
+use Rattle.std.proofs.lemmas.List.{nil_from_length, take_all, drop-drop, drop_at, take-append-le, drop-append-le}
 use Rattle.blocks.specs.Bytes.{block, filled, xored}
 use Rattle.imitovstavka.specs.Chain.{chained, absorbed}
 
@@ -39,29 +40,30 @@ module _ (E : List ℕ → List ℕ) (state : List ℕ) (xs ys : List ℕ) where
       ap (λ (n : ℕ). chained E (chained E state xs n) ys ((length ys + 7) / 8)) a
       ∙ (chained_second m ((length ys + 7) / 8) whole ∙ ap (chained E state (xs ++ ys)) (sym b))
 
--- the whole blocks, and what is left after them
-pub absorbed_whole : (E : List ℕ → List ℕ) (state text : List ℕ) (n : ℕ) → n ≡ length text / 8 → length text % 8 ≡ 0 → chained E state text n ≡ absorbed E state text
+-- a text of one block, and one of none
+absorbed_one : (E : List ℕ → List ℕ) (state text : List ℕ) → 0 < length text → length text ≤ 8 → absorbed E state text ≡ E (xored state (filled 8 text))
 unfolding absorbed
-absorbed_whole E state text n e h =
-    let k : n ≡ (length text + 7) / 8 = omega arith in ap (chained E state text) k
+absorbed_one E state text some short =
+    let one : (length text + 7) / 8 ≡ 1 = omega arith in
+    rw one (ap (λ (b : List ℕ). E (xored state (filled 8 b))) (take_all 8 text short))
 
-absorbed_rest : (E : List ℕ → List ℕ) (state text : List ℕ) (n : ℕ) → n ≡ length text / 8 → (length text % 8 ≡ 0 → ⊥) →
-    E (xored (chained E state text n) (filled 8 (drop (8 * n) text))) ≡ absorbed E state text
+pub absorbed_none : (E : List ℕ → List ℕ) (state text : List ℕ) → length text ≡ 0 → absorbed E state text ≡ state
 unfolding absorbed
-absorbed_rest E state text n e h =
-    let k : (length text + 7) / 8 ≡ suc n = omega arith in
-    let short : length (drop (8 * n) text) ≤ 8 = simp length-drop (omega arith) in
-    ap (λ (b : List ℕ). E (xored (chained E state text n) (filled 8 b))) (sym (take_all 8 (drop (8 * n) text) short)) ∙ ap (chained E state text) (sym k)
+absorbed_none E state text none =
+    let e : (length text + 7) / 8 ≡ 0 = omega arith in ap (chained E state text) e
 
--- one more whole block
-pub chained_more : (E F : List ℕ → List ℕ) (state text s after : List ℕ) (i : ℕ) → F ≡ E → s ≡ chained E state text i →
-    after ≡ F (xored s (filled 8 (take ((8 * i + 8) - 8 * i) (drop (8 * i) text)))) → after ≡ chained E state text (i + 1)
-chained_more E F state text s after i f e a =
-    let len : (8 * i + 8) - 8 * i ≡ 8 = omega arith in
-    let next : suc i ≡ i + 1 = omega arith in
-    a ∙ rw (f, e, len) (ap (chained E state text) next)
-
--- and the rest of a text that does not end on a block
-pub chained_rest : (E F : List ℕ → List ℕ) (state text s after : List ℕ) (n : ℕ) → n ≡ length text / 8 → (length text % 8 ≡ 0 → ⊥) → F ≡ E → s ≡ chained E state text n →
-    after ≡ F (xored s (filled 8 (take (length text - 8 * n) (drop (8 * n) text)))) → after ≡ absorbed E state text
-chained_rest E F state text s after n k part f e a = a ∙ rw (f, e, take_rest text (8 * n)) (absorbed_rest E state text n k part)
+-- one block more, which is short only where the text ends
+pub absorbed_step : (E F : List ℕ → List ℕ) (state after text b rest : List ℕ) → F ≡ E → after ≡ F (xored state (filled 8 b)) →
+    text ≡ b ++ rest → length b ≡ min 8 (length text) → 0 < length text → absorbed E after rest ≡ absorbed E state text
+absorbed_step E F state after text b rest f a parts size some =
+    let sum = ap length parts ∙ length-append b rest in
+    let one = absorbed_one E state b (omega arith) (omega arith) in
+    let e : after ≡ absorbed E state b = a ∙ rw f (sym one) in
+    elim (cases_lt (length text) 8) [
+      | inl short ↦
+          let none : rest ≡ [] = nil_from_length rest (omega arith) in
+          absorbed_none E after rest (omega arith) ∙ (e ∙ rw (parts, none, append-nil))
+      | inr long ↦
+          let whole : length b % 8 ≡ 0 = omega arith in
+          ap (λ (s : List ℕ). absorbed E s rest) e ∙ (absorbed-append E state b rest whole ∙ ap (absorbed E state) (sym parts))
+    ]

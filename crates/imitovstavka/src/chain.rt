@@ -46,12 +46,8 @@ impl<'a> Chain<'a> {
         ensures state { state_in self.new ≡ absorbed (map_in self.old) (state_in self.old) part.now }
         ensures together { (before : List ℕ) → length before % 8 ≡ 0 → state_in self.old ≡ absorbed (map_in self.old) start before → state_in self.new ≡ absorbed (map_in self.old) start (before ++ part.now) }
     {
-        let whole = part.len() / 8;
-        for i in 0..whole {
-            self.take_in(&part[8 * i..8 * i + 8]);
-        }
-        if part.len() % 8 != 0 {
-            self.take_in(&part[8 * whole..]);
+        for block in part.chunks(8) {
+            self.take_in(block);
         }
     }
 

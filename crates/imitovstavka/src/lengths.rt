@@ -12,7 +12,7 @@ impl TagLength {
     pub fn new(bits: u8) -> Result<TagLength, Refusal>
         ensures { answer bits_of result ≡ length_answer bits }
     {
-        if bits < 1 || bits > 32 {
+        if !(1..=32).contains(&bits) {
             return Err(Refusal::new(Reason::BadField, 0, Layer::File));
         }
         Ok(TagLength { bits })

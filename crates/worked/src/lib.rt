@@ -25,9 +25,6 @@ pub fn worked_values() -> Result<u32, Refusal>
 {
     let table = SubstitutionTable::new([[0; 16]; 8])?;
     let bits = TagLength::new(32)?;
-    imitovstavka(
-        Gost::new(&table, &[0; 8]),
-        bits,
-        &[1, 2, 3, 4, 5, 6, 7, 8, 0x11],
-    )
+    let cipher = Gost::new(&table, &[0; 8]);
+    imitovstavka(cipher, bits, &[1, 2, 3, 4, 5, 6, 7, 8, 0x11])
 }
