@@ -4,12 +4,12 @@ use borrow.Rule.Slice.PartMut.{put_mid}
 use Rattle.std.proofs.lemmas.Nat.{div-add-mod'}
 use Rattle.std.proofs.lemmas.List.{append-nil, take-append-le, drop-append-le, drop-drop, drop_at, drop_all, drop-take, length-take-le, take_all}
 use Rattle.std.proofs.lemmas.Slice.{take-put_mid_below, drop-put_mid}
-use Rattle.std.proofs.lemmas.Bool.{and_parts, and_cases, and_left, and_right, or_cases, eqb-true, leb-true, leb-false, ltb-true, ltb-false, le-leb, lt-leb, lt-ltb, le-ltb, cases_Bool, cases_eq, cases_lt, cond-true, cond-false}
+use Rattle.std.proofs.lemmas.Bool.{and_parts, and_cases, and_left, and_right, or_cases, eqb-true, leb-true, leb-false, ltb-true, ltb-false, le-leb, lt-leb, lt-ltb, le-ltb, cases_Bool, cases_lt, cond-true, cond-false}
 use Rattle.std.specs.Str.{bytes_eq}
 use Rattle.blocks.specs.Bytes.{block}
 use Rattle.modes.specs.Modes.{block_count}
 use Rattle.modes.proofs.Plain.{index_in, index_out}
-use Rattle.modes.proofs.Joined.{count_whole, count_rest, count_tight}
+use Rattle.modes.proofs.Joined.{count_tight}
 use Rattle.downloads.specs.declared.arrivals.Arrival.{Arrival}
 use Rattle.downloads.specs.Marks.{arrived_at}
 use Rattle.downloads.specs.Copies.{Copies, copies_in}
@@ -34,15 +34,6 @@ framed n L f bytes h =
     }
 
 -- ---- places
--- the blocks that a division rounded up counts
-pub count_ceil : (n m bytes : ℕ) → n ≡ m → 0 < m → bytes / n + min 1 (bytes % n) ≡ block_count m bytes
-count_ceil n m bytes e h =
-    rw e
-    (elim (cases_eq (bytes % m) 0) [
-      | inl whole ↦ omega (arith, count_whole m bytes h whole)
-      | inr rest ↦ omega (arith, count_rest m bytes h rest)
-    ])
-
 pub times_le : (n k : ℕ) → 0 < n → k ≤ n * k
 times_le n k pos = let one : 1 ≤ n = omega arith in omega (arith, mul-le-mul_right k one, one-mul k)
 

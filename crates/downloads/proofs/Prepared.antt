@@ -10,7 +10,7 @@ use Rattle.blocks.specs.Ciphers.{BlockMap, Lawful}
 use Rattle.modes.specs.Modes.{block_count, joined}
 use Rattle.modes.specs.Calls.{agrees, whole_in, chaining, mode_answer, plain_of, block_answer, buffer_after, front}
 use Rattle.modes.proofs.Judged.{judged_sound}
-use Rattle.modes.proofs.Joined.{count_enough, length-block, joined_long, joined_more}
+use Rattle.modes.proofs.Joined.{count_enough, length-block, joined_long, joined_more, count_ceil}
 use Rattle.modes.proofs.Plain.{index_in}
 use Rattle.modes.proofs.Undoing.{plain_long}
 use Rattle.description.specs.Limits.{allowed_length}
@@ -20,7 +20,7 @@ use Rattle.sections.specs.Images.{block_length}
 use Rattle.sections.specs.Entries.{Described}
 use Rattle.downloads.specs.Frames.{block_of, blocks_of}
 use Rattle.downloads.specs.Pages.{first_in, count_in, filled_up}
-use Rattle.downloads.proofs.Framing.{begins, times_le, count_ceil}
+use Rattle.downloads.proofs.Framing.{begins, times_le}
 use Rattle.downloads.proofs.Answered.{block_some, page_parts}
 use Rattle.downloads.proofs.Given.{section-judged}
 

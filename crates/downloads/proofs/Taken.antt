@@ -6,11 +6,12 @@ use Rattle.std.specs.Int.{div_ceil}
 use Rattle.refusals.specs.Codes.{Code, unless}
 use Rattle.modes.specs.Modes.{block_count}
 use Rattle.sections.specs.Entries.{Described}
+use Rattle.modes.proofs.Joined.{count_ceil}
 use Rattle.downloads.specs.declared.arrivals.Arrival.{Arrival}
 use Rattle.downloads.specs.Marks.{put_at, marked_from}
 use Rattle.downloads.specs.Copies.{copies_in}
 use Rattle.downloads.specs.Frames.{block_of, blocks_of, good_store, good_frame, frame_answer, with_frame, body_after, marks_after}
-use Rattle.downloads.proofs.Framing.{Framed, framed, blocks_within, count_ceil, copies_taken}
+use Rattle.downloads.proofs.Framing.{Framed, framed, blocks_within, copies_taken}
 use Rattle.downloads.proofs.Answered.{store_parts, block_some, frame_granted}
 
 -- a part from a place to the end, with other bytes at its front

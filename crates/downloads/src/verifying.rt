@@ -2,7 +2,7 @@
 
 ghost use Rattle.std.specs.Prelude.{◌≡◌, ◌+◌, ◌-◌, ◌<◌, ◌≤◌, true, length, ◌==◌};
 ghost use Rattle.refusals.specs.Codes.{outcome};
-ghost use Rattle.gost.specs.Cipher.{rows_of};
+ghost use Rattle.gost.specs.Keyed.{rows_in, words_in};
 ghost use Rattle.sections.specs.Meaning.{meaning_of};
 ghost use Rattle.sections.specs.Files.{pages_end};
 ghost use Rattle.targets.specs.State.{WellFormed, page_of};
@@ -12,7 +12,7 @@ ghost use Rattle.downloads.specs.Verdicts.{image_on, value_of_image, verify_judg
 
 use crate::received::sized;
 use crate::state::{Closed, Refused, Verdict, Verified};
-use gost::table::SubstitutionTable;
+use gost::cipher::Gost;
 use imitovstavka::chain::Chain;
 use refusals::{Layer, Reason, Refusal};
 use sections::section::Section;
@@ -35,22 +35,17 @@ fn judge_verifying<T: Target>(section: &Section, target: &T, room: usize) -> Res
 }
 
 /// The imitovstavka of the image on a target. The page buffer then holds the image's last page.
-fn value_on<'a, T: Target>(
-    section: &Section,
-    target: &T,
-    table: &'a SubstitutionTable,
-    tag_key: &'a [u32; 8],
-    page: &mut [u8],
-) -> u32
+fn value_on<T: Target>(section: &Section, target: &T, tag: Gost<'_>, page: &mut [u8]) -> u32
     requires formed { WellFormed (T.Target.state target.now) }
     requires room { length page.old ≡ (T.Target.state target.now).page_length }
     requires there { pages_end (T.Target.state target.now).page_length (meaning_of section.now) ≤ (T.Target.state target.now).page_count }
-    ensures value { result ≡ value_of_image (rows_of table.now) tag_key.now (meaning_of section.now) (image_on (meaning_of section.now) (T.Target.state target.now)) }
+    ensures value { result ≡ value_of_image (rows_in tag.entry) (words_in tag.entry) (meaning_of section.now) (image_on (meaning_of section.now) (T.Target.state target.now)) }
     ensures page { page.new ≡ page_of (T.Target.state target.now) (last_page (meaning_of section.now) (T.Target.state target.now)) }
 {
-    let mut chain = Chain::new(table, tag_key);
+    let mut chain = Chain::new(tag);
     let length = section.length as usize;
     let long = page.len();
+    // By number: each page is read into the same buffer, and the last one is cut short.
     for k in 0..length.div_ceil(long) {
         let _ = target.read(section.first_page + k as u32, page);
         let count = (length - long * k).min(long);
@@ -62,18 +57,18 @@ fn value_on<'a, T: Target>(
 impl Closed {
     /// Verifies the image on a target: reads its pages in turn into a page buffer, which keeps the last
     /// one, and says whether the imitovstavka of its bytes, never of the fill after them, is the listed
-    /// one. Refused, with the state given back and the buffer as it was: a buffer of another length than
-    /// the target's pages; an image page that the target does not have.
+    /// one; `tag` holds the table and the tag key. Refused, with the state given back and the buffer as
+    /// it was: a buffer of another length than the target's pages; an image page that the target does
+    /// not have.
     pub fn verify<T: Target>(
         self,
         target: &T,
-        table: &SubstitutionTable,
-        tag_key: &[u32; 8],
+        tag: Gost<'_>,
         page: &mut [u8],
     ) -> Result<Verified, Refused<Closed>>
-        ensures answer { verdict_of result ≡ verify_answer (rows_of table.now) tag_key.now (section_in self) (T.Target.state target.now) (length page.old) }
+        ensures answer { verdict_of result ≡ verify_answer (rows_in tag.entry) (words_in tag.entry) (section_in self) (T.Target.state target.now) (length page.old) }
         ensures state { stays verified_of section_in result ≡ section_in self }
-        ensures page { page.new ≡ read_after (rows_of table.now) tag_key.now (section_in self) (T.Target.state target.now) page.old }
+        ensures page { page.new ≡ read_after (rows_in tag.entry) (words_in tag.entry) (section_in self) (T.Target.state target.now) page.old }
     {
         if let Err(refusal) = judge_verifying(&self.section, target, page.len()) {
             return Err(Refused {
@@ -81,7 +76,7 @@ impl Closed {
                 refusal,
             });
         }
-        let value = value_on(&self.section, target, table, tag_key, page);
+        let value = value_on(&self.section, target, tag, page);
         let verdict = if value == self.section.tag {
             Verdict::Good
         } else {

@@ -1,10 +1,11 @@
 use Rattle.std.proofs.Common.{◌≡◌, ℕ, ◌+◌, ◌-◌, ◌*◌, ◌<◌, Bool, true, false, length, refl, ap, ◌∙◌, arith, rules, tests}
 use Rattle.std.proofs.lemmas.Iterator.{first_from_Range, serves_from_Range}
 use Rattle.modes.specs.Modes.{block_count}
+use Rattle.modes.proofs.Joined.{count_ceil}
 use Rattle.downloads.specs.Marks.{lowest}
 use Rattle.downloads.specs.Frames.{conflicts}
 use Rattle.downloads.specs.Received.{body_in, copies_of}
-use Rattle.downloads.proofs.Framing.{framed, begins, blocks_within, conflicts_past, count_ceil}
+use Rattle.downloads.proofs.Framing.{framed, begins, blocks_within, conflicts_past}
 use Rattle.downloads.proofs.Lowest.{searched}
 use Rattle.downloads.proofs.Windows.{window}
 use Rattle.downloads.proofs.frames.first_conflict.Goals as goal

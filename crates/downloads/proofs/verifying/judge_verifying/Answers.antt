@@ -3,8 +3,8 @@ use Rattle.refusals.specs.declared.Reason.TheVariants.{NoSuchPage}
 use Rattle.refusals.specs.declared.Layer.TheVariants.{Download}
 use Rattle.sections.specs.Images.{pages_for}
 use Rattle.sections.specs.Meaning.{meaning_of}
+use Rattle.modes.proofs.Joined.{count_ceil}
 use Rattle.downloads.proofs.Answered.{told, passed_first, page_parts}
-use Rattle.downloads.proofs.Framing.{count_ceil}
 use Rattle.downloads.proofs.Verified.{verify_past, verify_there}
 use Rattle.downloads.proofs.verifying.judge_verifying.Goals as goal
 
