@@ -1,8 +1,8 @@
 pub mod Marks
 pub mod Copies
 pub mod Frames
-pub mod Received
 pub mod Blocks
 pub mod Pages
+pub mod Received
 pub mod Verdicts
 pub mod States

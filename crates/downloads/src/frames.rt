@@ -5,8 +5,8 @@ ghost use Rattle.refusals.specs.Codes.{answer, outcome, unless};
 ghost use Rattle.modes.specs.Modes.{block_count};
 ghost use Rattle.sections.specs.Meaning.{meaning_of, sections_in};
 ghost use Rattle.downloads.specs.Marks.{lowest, put_at};
-ghost use Rattle.downloads.specs.Frames.{block_of, open_answer, good_frame, conflicts, frame_answer, with_frame, body_after, marks_after, close_answer};
-ghost use Rattle.downloads.specs.Received.{body_in, marks_of, copies_of};
+ghost use Rattle.downloads.specs.Frames.{block_of, good_frame, conflicts, with_frame, body_after, marks_after};
+ghost use Rattle.downloads.specs.Received.{body_in, marks_of, copies_of, open_said, frame_said, close_said};
 ghost use Rattle.downloads.specs.States.{section_in, moved_on, stays};
 
 use crate::arrivals::Arrival;
@@ -72,7 +72,7 @@ fn judge_frame(
     first: u32,
     frame: &[u8],
 ) -> Result<(), Refusal>
-    ensures { outcome result ≡ frame_answer (meaning_of section.now) (length (body_in received.now)) (length (marks_of received.now)) (copies_of (block_of (meaning_of section.now)) received.now) first frame.now }
+    ensures { outcome result ≡ frame_said (meaning_of section.now) received.now first frame.now }
 {
     sized(stores(section, received))?;
     let n = section.cipher.block_length();
@@ -91,9 +91,9 @@ pub fn open<C: BlockCipher>(
     cipher: &C,
     received: &mut Received<'_>,
 ) -> Result<Receiving, Refusal>
-    ensures answer { answer section_in result ≡ open_answer (sections_in listing.now) number (C.BlockCipher.map cipher.now).size (length (body_in received.old)) (length (marks_of received.old)) }
+    ensures answer { answer section_in result ≡ open_said (sections_in listing.now) number (C.BlockCipher.map cipher.now).size received.old }
     ensures body { body_in received.new ≡ body_in received.old }
-    ensures arrivals { marks_of received.new ≡ unless (open_answer (sections_in listing.now) number (C.BlockCipher.map cipher.now).size (length (body_in received.old)) (length (marks_of received.old))) (marks_of received.old) (replicate (length (marks_of received.old)) Arrival.Missing) }
+    ensures arrivals { marks_of received.new ≡ unless (open_said (sections_in listing.now) number (C.BlockCipher.map cipher.now).size received.old) (marks_of received.old) (replicate (length (marks_of received.old)) Arrival.Missing) }
 {
     let section = listing.section(number)?;
     sized(belongs(&section, cipher, received))?;
@@ -111,11 +111,11 @@ impl Receiving {
         first: u32,
         frame: &[u8],
     ) -> Result<Receiving, Refused<Receiving>>
-        ensures answer { moved_on result ≡ frame_answer (section_in self) (length (body_in received.old)) (length (marks_of received.old)) (copies_of (block_of (section_in self)) received.old) first frame.now }
+        ensures answer { moved_on result ≡ frame_said (section_in self) received.old first frame.now }
         ensures state { stays section_in section_in result ≡ section_in self }
-        ensures body { body_in received.new ≡ unless (frame_answer (section_in self) (length (body_in received.old)) (length (marks_of received.old)) (copies_of (block_of (section_in self)) received.old) first frame.now) (body_in received.old) (body_after (block_of (section_in self)) first frame.now (body_in received.old)) }
-        ensures arrivals { marks_of received.new ≡ unless (frame_answer (section_in self) (length (body_in received.old)) (length (marks_of received.old)) (copies_of (block_of (section_in self)) received.old) first frame.now) (marks_of received.old) (marks_after (block_of (section_in self)) first frame.now (marks_of received.old)) }
-        ensures copies { copies_of (block_of (section_in self)) received.new ≡ unless (frame_answer (section_in self) (length (body_in received.old)) (length (marks_of received.old)) (copies_of (block_of (section_in self)) received.old) first frame.now) (copies_of (block_of (section_in self)) received.old) (with_frame (block_of (section_in self)) (copies_of (block_of (section_in self)) received.old) first frame.now) }
+        ensures body { body_in received.new ≡ unless (frame_said (section_in self) received.old first frame.now) (body_in received.old) (body_after (block_of (section_in self)) first frame.now (body_in received.old)) }
+        ensures arrivals { marks_of received.new ≡ unless (frame_said (section_in self) received.old first frame.now) (marks_of received.old) (marks_after (block_of (section_in self)) first frame.now (marks_of received.old)) }
+        ensures copies { copies_of (block_of (section_in self)) received.new ≡ unless (frame_said (section_in self) received.old first frame.now) (copies_of (block_of (section_in self)) received.old) (with_frame (block_of (section_in self)) (copies_of (block_of (section_in self)) received.old) first frame.now) }
     {
         if let Err(refusal) = judge_frame(&self.section, received, first, frame) {
             return Err(Refused {
@@ -134,7 +134,7 @@ impl Receiving {
 
 /// Whether a download can be closed.
 fn judge_closing(section: &Section, received: &Received<'_>) -> Result<(), Refusal>
-    ensures { outcome result ≡ close_answer (meaning_of section.now) (length (body_in received.now)) (length (marks_of received.now)) (copies_of (block_of (meaning_of section.now)) received.now) }
+    ensures { outcome result ≡ close_said (meaning_of section.now) received.now }
 {
     sized(stores(section, received))?;
     let blocks = received.arrivals.blocks() as u32;
@@ -146,7 +146,7 @@ impl Receiving {
     /// Closes the download once every block has arrived. Refused, with the state given back: a body or
     /// a record that is not the section's; a block that has not arrived.
     pub fn close(self, received: &Received<'_>) -> Result<Closed, Refused<Receiving>>
-        ensures answer { moved_on result ≡ close_answer (section_in self) (length (body_in received.now)) (length (marks_of received.now)) (copies_of (block_of (section_in self)) received.now) }
+        ensures answer { moved_on result ≡ close_said (section_in self) received.now }
         ensures state { stays section_in section_in result ≡ section_in self }
     {
         if let Err(refusal) = judge_closing(&self.section, received) {

@@ -4,8 +4,8 @@ ghost use Rattle.std.specs.Prelude.{◌≡◌, ◌+◌, ◌-◌, ◌<◌, true, 
 ghost use Rattle.refusals.specs.Codes.{answer, outcome};
 ghost use Rattle.sections.specs.Meaning.{meaning_of};
 ghost use Rattle.downloads.specs.Frames.{block_of};
-ghost use Rattle.downloads.specs.Received.{body_in, marks_of, copies_of, stores};
-ghost use Rattle.downloads.specs.Blocks.{first_needed, give_judged, give_answer, out_after};
+ghost use Rattle.downloads.specs.Received.{copies_of, stores, give_said, out_given};
+ghost use Rattle.downloads.specs.Blocks.{first_needed, give_judged};
 
 use crate::received::{Received, belongs, refused_at, sized};
 use blocks::BlockCipher;
@@ -48,8 +48,8 @@ pub fn give<C: BlockCipher>(
     i: u32,
     out: &mut [u8],
 ) -> Result<usize, Refusal>
-    ensures answer { answer (λ count. count) result ≡ give_answer (C.BlockCipher.map cipher.now) (meaning_of section.now) (length (body_in received.now)) (length (marks_of received.now)) (copies_of (block_of (meaning_of section.now)) received.now) i (length out.old) }
-    ensures out { out.new ≡ out_after (C.BlockCipher.map cipher.now) (meaning_of section.now) (length (body_in received.now)) (length (marks_of received.now)) (copies_of (block_of (meaning_of section.now)) received.now) i out.old }
+    ensures answer { answer (λ count. count) result ≡ give_said (C.BlockCipher.map cipher.now) (meaning_of section.now) received.now i (length out.old) }
+    ensures out { out.new ≡ out_given (C.BlockCipher.map cipher.now) (meaning_of section.now) received.now i out.old }
 {
     sized(belongs(section, cipher, received))?;
     sized(out.len() == section.cipher.block_length())?;

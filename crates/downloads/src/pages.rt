@@ -9,8 +9,8 @@ ghost use Rattle.refusals.specs.declared.Reason.TheVariants.{NoSuchPage};
 ghost use Rattle.refusals.specs.declared.Layer.TheVariants.{Download as DownloadLayer};
 ghost use Rattle.sections.specs.Meaning.{meaning_of};
 ghost use Rattle.downloads.specs.Frames.{block_of, blocks_of};
-ghost use Rattle.downloads.specs.Received.{body_in, marks_of, copies_of, stores};
-ghost use Rattle.downloads.specs.Pages.{first_in, count_in, filled_up, place_of, page_judged, program_page_answer, target_programmed, buffer_after};
+ghost use Rattle.downloads.specs.Received.{copies_of, stores, program_said, target_left, page_left};
+ghost use Rattle.downloads.specs.Pages.{first_in, count_in, filled_up, place_of, page_judged};
 
 use crate::giving::first_needed;
 use crate::received::{Received, belongs, refused_at, sized};
@@ -112,9 +112,9 @@ pub fn program<C: BlockCipher, T: Target>(
     j: u16,
     page: &mut [u8],
 ) -> Result<(), Refusal>
-    ensures answer { outcome result ≡ program_page_answer (C.BlockCipher.map cipher.now) (meaning_of section.now) (length (body_in received.now)) (length (marks_of received.now)) (T.Target.state target.old) (copies_of (block_of (meaning_of section.now)) received.now) (length page.old) j }
-    ensures target { T.Target.state target.new ≡ target_programmed (C.BlockCipher.map cipher.now) (meaning_of section.now) (length (body_in received.now)) (length (marks_of received.now)) (T.Target.state target.old) (copies_of (block_of (meaning_of section.now)) received.now) (length page.old) j }
-    ensures page { page.new ≡ buffer_after (C.BlockCipher.map cipher.now) (meaning_of section.now) (length (body_in received.now)) (length (marks_of received.now)) (T.Target.state target.old) (copies_of (block_of (meaning_of section.now)) received.now) j page.old }
+    ensures answer { outcome result ≡ program_said (C.BlockCipher.map cipher.now) (meaning_of section.now) received.now (T.Target.state target.old) (length page.old) j }
+    ensures target { T.Target.state target.new ≡ target_left (C.BlockCipher.map cipher.now) (meaning_of section.now) received.now (T.Target.state target.old) (length page.old) j }
+    ensures page { page.new ≡ page_left (C.BlockCipher.map cipher.now) (meaning_of section.now) received.now (T.Target.state target.old) j page.old }
 {
     let long = target.page_length() as usize;
     sized(belongs(section, cipher, received))?;
