@@ -1,5 +1,6 @@
 -- Pages one after the other.
 use Rattle.std.proofs.Common.{◌≡◌, ℕ, zero, suc, ◌+◌, ◌*◌, ◌<◌, ◌≤◌, List, [], ◌∷◌, ◌++◌, length, get_or, take, drop, sym, ap, ◌∙◌, mul-zero, mul-suc, arith, length-append, drop-cons}
+use Rattle.std.proofs.ByRecursion.{All-get_or}
 use Rattle.std.proofs.lemmas.List.{drop-drop, drop_at, take_at}
 use Rattle.std.specs.List.{AllByRecursion}
 use Rattle.downloads.specs.Verdicts.{flat}
@@ -20,17 +21,7 @@ flat-drop P (suc k) (page ∷ pages) h l =
     ap (λ (n : ℕ). drop n (page ++ flat pages)) e
     ∙ (sym (drop-drop (P * k) P (page ++ flat pages)) ∙ (ap (drop (P * k)) (drop_at page (flat pages) P h.0) ∙ flat-drop P k pages h.1 (omega arith)))
 
-pub all_drop : (P k : ℕ) (pages : List (List ℕ)) → AllByRecursion (Long P) pages → AllByRecursion (Long P) (drop k pages)
-all_drop P zero pages h = h
-all_drop P (suc k) [] h = tt
-all_drop P (suc k) (page ∷ pages) h = all_drop P k pages h.1
-
-all_at : (P k : ℕ) (pages : List (List ℕ)) → AllByRecursion (Long P) pages → k < length pages → length (get_or pages k []) ≡ P
-all_at P k [] h l = absurd (omega arith)
-all_at P zero (page ∷ pages) h l = h.0
-all_at P (suc k) (page ∷ pages) h l = all_at P k pages h.1 (omega arith)
-
 -- page k is where it lies
 pub flat_page : (P k : ℕ) (pages : List (List ℕ)) → AllByRecursion (Long P) pages → k < length pages → take P (drop (P * k) (flat pages)) ≡ get_or pages k []
 flat_page P k pages h l =
-    ap (take P) (flat-drop P k pages h (omega arith) ∙ ap flat (drop-cons pages k [] l)) ∙ take_at (get_or pages k []) (flat (drop (suc k) pages)) P (all_at P k pages h l)
+    ap (take P) (flat-drop P k pages h (omega arith) ∙ ap flat (drop-cons pages k [] l)) ∙ take_at (get_or pages k []) (flat (drop (suc k) pages)) P (All-get_or (Long P) pages k [] l h)

@@ -1,5 +1,5 @@
 -- A frame on the blocks of a body.
-use Rattle.std.proofs.Common.{◌≡◌, ℕ, ◌+◌, ◌-◌, ◌*◌, ◌/◌, ◌%◌, ◌<◌, ◌≤◌, min, Bool, true, false, cond, not, ◌&&◌, ◌||◌, eqb, ltb, leb, ◌⊎◌, List, ◌++◌, length, take, drop, Some, None, Option, sym, refl, ap, ◌∙◌, ap₂, inl, inr, mul-le-mul_right, mul_comm, lt_of_mul-lt-mul_right, mul-le-mul_left, one-mul, mul-one, mul-add, arith, length-drop}
+use Rattle.std.proofs.Common.{◌≡◌, ℕ, ◌+◌, ◌-◌, ◌*◌, ◌/◌, ◌%◌, ◌<◌, ◌≤◌, min, Bool, true, false, cond, not, ◌&&◌, ◌||◌, eqb, ltb, leb, ◌⊎◌, List, ◌++◌, length, take, drop, Some, None, Option, sym, refl, ap, ◌∙◌, ap₂, inl, inr, mul_comm, lt_of_mul-lt-mul_right, mul-le-mul_left, mul-one, mul-add, arith, length-drop}
 use borrow.Rule.Slice.PartMut.{put_mid}
 use Rattle.std.proofs.lemmas.Nat.{div-add-mod'}
 use Rattle.std.proofs.lemmas.List.{append-nil, take-append-le, drop-append-le, drop-drop, drop_at, drop_all, drop-take, length-take-le, take_all}
@@ -34,17 +34,6 @@ framed n L f bytes h =
     }
 
 -- ---- places
-pub times_le : (n k : ℕ) → 0 < n → k ≤ n * k
-times_le n k pos = let one : 1 ≤ n = omega arith in omega (arith, mul-le-mul_right k one, one-mul k)
-
--- a block that there is begins before the end
-pub begins : (n i bytes : ℕ) → 0 < n → i < block_count n bytes → n * i < bytes
-begins n i bytes pos h = elim (cases_lt (n * i) bytes) [ inl l ↦ l | inr o ↦ absurd (omega (arith, index_out n i bytes pos o)) ]
-
--- a block of a frame is low
-pub frame_low : (n L f bytes i : ℕ) → 0 < n → L ≤ 16384 → Framed n L f bytes → n * i < bytes → f + i ≤ 16384
-frame_low n L f bytes i pos small fr l = omega (arith, times_le n f pos, times_le n i pos, fr.within)
-
 pub place : (n f k : ℕ) → f ≤ k → n * f + n * (k - f) ≡ n * k
 place n f k h = let e : f + (k - f) ≡ k = omega arith in sym (mul-add n f (k - f)) ∙ ap (λ (x : ℕ). n * x) e
 

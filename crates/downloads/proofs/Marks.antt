@@ -1,21 +1,16 @@
 -- Marks of an arrival record.
-use Rattle.std.proofs.Common.{◌≡◌, ℕ, ◌+◌, ◌-◌, ◌<◌, ◌≤◌, false, not, ◌&&◌, ◌||◌, ltb, leb, List, length, get_or, take, replicate, sym, ap, ◌∙◌, inl, inr, arith, length-take, get_or-take, take_at}
+use Rattle.std.proofs.Common.{◌≡◌, ℕ, ◌+◌, ◌-◌, ◌≤◌, false, not, ◌&&◌, ◌||◌, ltb, leb, List, length, take, replicate, sym, ap, ◌∙◌, inl, inr, arith, take_at}
 use lib.ListN.{length-replicate, get_or-replicate, get_or-eq_default, replicate-append-replicate}
-use Rattle.std.proofs.lemmas.List.{get_or_default}
 use Rattle.std.proofs.lemmas.Bool.{cases_Bool, cases_lt, lt-ltb, le-ltb, le-leb, lt-leb}
 use Rattle.downloads.specs.declared.arrivals.Arrival.{Arrival}
 use Rattle.downloads.specs.declared.arrivals.Arrival.TheVariants.{Missing, Arrived}
-use Rattle.downloads.specs.declared.arrivals.ArrivalRecord.{ArrivalRecord}
-use Rattle.downloads.specs.Marks.{has_arrived, arrived_at, marks_in, marked_from}
+use Rattle.downloads.specs.Marks.{has_arrived, arrived_at, marked_from}
 use Rattle.downloads.specs.Copies.{lacks, copies_in}
 use Rattle.downloads.proofs.Parts.{put_below, put_in, put_above}
 
 -- a block past the marks has not arrived
 pub past_marks : (marks : List Arrival) (k : ℕ) → length marks ≤ k → arrived_at marks k ≡ false
 past_marks marks k h = ap has_arrived (get_or-eq_default marks Missing h)
-
-pub mark_at : (count : ℕ) (marks : List Arrival) (k : ℕ) (d : Arrival) → k < count → count ≤ length marks → has_arrived (get_or marks k d) ≡ arrived_at (take count marks) k
-mark_at count marks k d h l = ap has_arrived (get_or_default marks k d Missing (omega arith) ∙ sym (get_or-take count marks k Missing h))
 
 -- the front of a list of equal marks
 pub take_equal : {A : Type 0} (c n : ℕ) (x : A) → c ≤ n → take c (replicate n x) ≡ replicate c x
@@ -45,7 +40,3 @@ lacks_is n body marks k = elim (cases_Bool (arrived_at marks k)) [ inl t ↦ rw 
 
 pub lacks_are : (n : ℕ) (body : List ℕ) (marks : List Arrival) → lacks (copies_in n body marks) ≡ (λ k. not (arrived_at marks k))
 lacks_are n body marks = λ i k. lacks_is n body marks k i
-
--- a record has at most 2,048 marks
-pub marks_few : (r : ArrivalRecord) → length (marks_in r) ≤ 2048
-marks_few r = simp length-take (omega (arith, r.within))

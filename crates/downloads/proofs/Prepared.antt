@@ -10,7 +10,7 @@ use Rattle.blocks.specs.Ciphers.{BlockMap, Lawful}
 use Rattle.modes.specs.Modes.{block_count, joined}
 use Rattle.modes.specs.Calls.{agrees, whole_in, chaining, mode_answer, plain_of, block_answer, buffer_after, front}
 use Rattle.modes.proofs.Judged.{judged_sound}
-use Rattle.modes.proofs.Joined.{count_enough, length-block, joined_long, joined_more, count_ceil}
+use Rattle.modes.proofs.Joined.{begins_in, count_enough, length-block, joined_long, joined_more, count_ceil}
 use Rattle.modes.proofs.Plain.{index_in}
 use Rattle.modes.proofs.Undoing.{plain_long}
 use Rattle.description.specs.Limits.{allowed_length}
@@ -20,7 +20,6 @@ use Rattle.sections.specs.Images.{block_length}
 use Rattle.sections.specs.Entries.{Described}
 use Rattle.downloads.specs.Frames.{block_of, blocks_of}
 use Rattle.downloads.specs.Pages.{first_in, count_in, filled_up}
-use Rattle.downloads.proofs.Framing.{begins, times_le}
 use Rattle.downloads.proofs.Answered.{block_some, page_parts}
 use Rattle.downloads.proofs.Given.{section-judged}
 
@@ -69,7 +68,7 @@ module _ (c : BlockMap) (s : Described) (body : List ℕ) (law : Lawful c) (size
       part ≡ buffer_after c s.mode s.sync body (from + b) (take (n * b + n - n * b) (drop (n * b) page)) →
       put_mid (n * b) (n * b + n - n * b) page part ≡ front (joined plain from (b + 1)) was
   one_more from b page was part l e room is =
-      let here : n * (from + b) < length body = begins n (from + b) (length body) some l in
+      let here : n * (from + b) < length body = begins_in n (length body) (from + b) some l in
       let J : List ℕ = joined plain from b in
       let run : length J ≡ n * b = run_length from b (omega arith) ∙ omega (arith, mul-add n from b, here) in
       let small : length (plain (from + b)) ≤ n = omega (arith, plain-length (from + b) l) in
@@ -155,6 +154,3 @@ module _ (s : Described) (n L P j m : ℕ) (size : n ≡ block_of s) (long : L �
 
   pub begin_is : n * (j * (P / n)) ≡ j * P
   begin_is = ap₂ (λ (a b : ℕ). a * b) size first_is ∙ page_starts s P j allowed
-
-  pub first_small : j * (P / n) ≤ 16384
-  first_small = omega (arith, begin_is, times_le n (j * (P / n)) (subst (λ (k : ℕ). 0 < k) (sym size) (block_some s.cipher)))

@@ -1,5 +1,6 @@
 -- The image on a target, taken in page by page.
-use Rattle.std.proofs.Common.{◌≡◌, ℕ, suc, ◌+◌, ◌-◌, ◌*◌, ◌/◌, ◌%◌, ◌<◌, ◌≤◌, min, List, [], ◌∷◌, ◌++◌, length, take, drop, sym, ap, ◌∙◌, ap₂, inl, inr, mul_assoc, mul-le-mul_left, mul-zero, mul-one, mul-add, arith, length-drop, length-take, get_or-drop, take-take, take-add}
+use Rattle.std.proofs.Common.{◌≡◌, ℕ, suc, ◌+◌, ◌-◌, ◌*◌, ◌/◌, ◌%◌, ◌<◌, ◌≤◌, min, List, [], ◌++◌, length, take, drop, sym, ap, ◌∙◌, ap₂, inl, inr, mul_assoc, mul-le-mul_left, mul-zero, mul-one, mul-add, arith, length-drop, length-take, get_or-drop, take-take, take-add}
+use Rattle.std.proofs.ByRecursion.{All-drop, All-weaker}
 use Rattle.std.proofs.lemmas.List.{take_all, length-take-le}
 use Rattle.std.proofs.lemmas.Bool.{lt-leb, eq-eqb, cases_lt}
 use Rattle.std.specs.List.{AllByRecursion}
@@ -7,7 +8,7 @@ use Rattle.blocks.specs.Bytes.{Block}
 use Rattle.gost.specs.Tables.{Rows}
 use Rattle.gost.specs.Cipher.{sixteen}
 use Rattle.imitovstavka.specs.Chain.{absorbed, start, value_of, imitovstavka}
-use Rattle.modes.proofs.Joined.{count_enough}
+use Rattle.modes.proofs.Joined.{begins_in, count_enough}
 use Rattle.modes.proofs.Plain.{index_in}
 use Rattle.sections.specs.Images.{pages_for}
 use Rattle.sections.specs.Entries.{Described}
@@ -16,12 +17,7 @@ use Rattle.targets.specs.State.{TargetState, WellFormed, page_of}
 use Rattle.targets.specs.Calls.{read_out}
 use Rattle.downloads.specs.Verdicts.{flat, image_on, value_of_image, last_page}
 use Rattle.downloads.proofs.Answered.{page_parts}
-use Rattle.downloads.proofs.Framing.{begins}
-use Rattle.downloads.proofs.Flat.{Long, flat-length, flat_page, all_drop}
-
-all_long : (P : ℕ) (pages : List (List ℕ)) → AllByRecursion (Block P) pages → AllByRecursion (Long P) pages
-all_long P [] h = tt
-all_long P (page ∷ pages) h = (h.0.0, all_long P pages h.1)
+use Rattle.downloads.proofs.Flat.{Long, flat-length, flat_page}
 
 eights : (P k : ℕ) → P % 16 ≡ 0 → P * k % 8 ≡ 0
 eights P k h =
@@ -49,7 +45,7 @@ module _ (s : Described) (t : TargetState) (E : List ℕ → List ℕ) (formed :
   some_page = omega (arith, (page_parts P formed.sized).0)
 
   held : AllByRecursion (Long P) (drop s.first_page t.pages)
-  held = all_drop P s.first_page t.pages (all_long P t.pages formed.held)
+  held = All-drop (Long P) s.first_page t.pages (All-weaker (Block P) (Long P) (λ page h. h.0) t.pages formed.held)
 
   pages_there : pages_for P L ≤ length (drop s.first_page t.pages)
   pages_there = simp length-drop (omega (arith, formed.paged, there))
@@ -71,7 +67,7 @@ module _ (s : Described) (t : TargetState) (E : List ℕ → List ℕ) (formed :
   more : (k count : ℕ) → k < pages_for P L → count ≡ min (L - P * k) P → take (P * k) (image_on s t) ++ take count (page_of t (s.first_page + k)) ≡ take (P * (k + 1)) (image_on s t)
   unfolding image_on
   more k count h e =
-      let low : P * k < L = begins P k L some_page h in
+      let low : P * k < L = begins_in P L k some_page h in
       let next : P * (k + 1) ≡ P * k + P = mul-add P k 1 ∙ ap (λ (n : ℕ). P * k + n) (mul-one P) in
       let page : take P (drop (P * k) F) ≡ page_of t (s.first_page + k) = flat_page P k (drop s.first_page t.pages) held (omega (arith, pages_there)) ∙ get_or-drop s.first_page t.pages k [] in
       let part : take count (drop (P * k) F) ≡ take count (page_of t (s.first_page + k)) = sym (take-take count P (drop (P * k) F) (omega arith)) ∙ ap (take count) page in
@@ -90,7 +86,7 @@ module _ (s : Described) (t : TargetState) (E : List ℕ → List ℕ) (formed :
   pub summed_next : (k count : ℕ) (state state' page page' : List ℕ) → k < pages_for P L → Summed s t E k state page → page' ≡ page_of t (s.first_page + k) → count ≡ min (L - P * k) P →
       ((before : List ℕ) → length before % 8 ≡ 0 → state ≡ absorbed E start before → state' ≡ absorbed E start (before ++ take count page')) → Summed s t E (k + 1) state' page'
   summed_next k count state state' page page' h was read counted together =
-      let low : P * k < L = begins P k L some_page h in
+      let low : P * k < L = begins_in P L k some_page h in
       let before : List ℕ = take (P * k) (image_on s t) in
       let long : length before ≡ P * k = length-take-le (P * k) (image_on s t) (omega (arith, image_length_lem)) in
       record {

@@ -57,13 +57,6 @@ module _ (s : Described) (body : List ℕ) (marks : List Arrival) (f : ℕ) (fra
   marks_are : (m : ℕ) → m ≡ div_ceil (length frame) n → (now : List Arrival) → now ≡ marked_from f m marks → now ≡ marks_after (block_of s) f frame marks
   marks_are m e now h = h ∙ ap (λ (k : ℕ). marked_from f k marks) (ceil m e)
 
-  pub body_taken : (part : List ℕ) → part ≡ put_at 0 frame (take (length body - n * f) (drop (n * f) body)) →
-      put_mid (n * f) (length body - n * f) body part ≡ unless said body (body_after (block_of s) f frame body)
-  body_taken part e = body_is part e ∙ ap (λ (r : Result Unit Code). unless r body (body_after (block_of s) f frame body)) granted
-
-  pub marks_taken : (m : ℕ) → m ≡ div_ceil (length frame) n → (now : List Arrival) → now ≡ marked_from f m marks → now ≡ unless said marks (marks_after (block_of s) f frame marks)
-  marks_taken m e now h = marks_are m e now h ∙ ap (λ (r : Result Unit Code). unless r marks (marks_after (block_of s) f frame marks)) granted
-
   pub taken : (m : ℕ) → m ≡ div_ceil (length frame) n → (part : List ℕ) (now : List Arrival) → part ≡ put_at 0 frame (take (length body - n * f) (drop (n * f) body)) → now ≡ marked_from f m marks →
       copies_in (block_of s) (put_mid (n * f) (length body - n * f) body part) now ≡ unless said (copies_in (block_of s) body marks) (with_frame (block_of s) (copies_in (block_of s) body marks) f frame)
   taken m c part now e h =

@@ -1,6 +1,6 @@
 -- Verifying: what the call answers and leaves.
-use Rattle.std.proofs.Common.{◌≡◌, ℕ, ◌<◌, ◌≤◌, max, Bool, true, false, eqb, leb, List, length, Ok, Err, Result, refl, ap, ◌∙◌, inl, inr, arith}
-use Rattle.std.proofs.lemmas.Bool.{eqb-true, leb-true, lt-leb, le-leb, cases_lt}
+use Rattle.std.proofs.Common.{◌≡◌, ℕ, ◌<◌, ◌≤◌, max, Bool, true, false, eqb, List, length, Ok, Err, Result, refl, ap, ◌∙◌, inl, inr, arith}
+use Rattle.std.proofs.lemmas.Bool.{lt-leb, le-leb, cases_lt}
 use Rattle.refusals.specs.declared.Reason.TheVariants.{NoSuchPage}
 use Rattle.refusals.specs.declared.Layer.TheVariants.{Download}
 use Rattle.refusals.specs.Codes.{Code, refuse, then, unless}
@@ -10,17 +10,10 @@ use Rattle.sections.specs.Files.{pages_end}
 use Rattle.targets.specs.State.{TargetState, page_of}
 use Rattle.downloads.specs.Copies.{sized}
 use Rattle.downloads.specs.Verdicts.{first_off, verify_judged, good_on, verify_answer, last_page, read_after}
-use Rattle.downloads.proofs.Answered.{ok_sized, ok_cond}
 
 sized-then : {X Y : Type 0} (right : Bool) (first : Result X Code) (next : X → Result Y Code) → then (sized right first) next ≡ sized right (then first next)
 sized-then true first next = refl
 sized-then false first next = refl
-
-pub verify_granted : (s : Described) (t : TargetState) (room : ℕ) → sized (eqb room t.page_length) (verify_judged s t) ≡ Ok tt → (room ≡ t.page_length) × (pages_end t.page_length s ≤ t.page_count)
-verify_granted s t room e =
-    let a = ok_sized (eqb room t.page_length) (verify_judged s t) tt e in
-    let b = ok_cond (leb (pages_end t.page_length s) t.page_count) (Ok tt) _ tt a.1 in
-    (eqb-true room t.page_length a.0, leb-true (pages_end t.page_length s) t.page_count b.0)
 
 -- what is told of the image's end
 module _ (s : Described) (t : TargetState) (room : ℕ) (right : eqb room t.page_length ≡ true) where

@@ -10,6 +10,7 @@ pub enum Arrival {
 }
 
 /// One mark a block: the first `count` of the array. A body has at most 2,048 blocks.
+// Of fixed size, with a count: the library takes no heap.
 #[derive(Clone, Copy)]
 pub struct ArrivalRecord {
     pub(crate) marks: [Arrival; 2048],

@@ -70,7 +70,7 @@ fn prepare<C: BlockCipher>(
 fn no_such_page(page: u64) -> Refusal
     ensures { code_of result ≡ refuse NoSuchPage (place_of page) DownloadLayer }
 {
-    let place = page.min(0xffff_ffff) as u32;
+    let place = u32::try_from(page).unwrap_or(u32::MAX);
     Refusal::new(Reason::NoSuchPage, place, Layer::Download)
 }
 

@@ -1,11 +1,11 @@
 use Rattle.std.proofs.Common.{◌≡◌, ℕ, ◌+◌, ◌-◌, ◌*◌, ◌<◌, Bool, true, false, length, refl, ap, ◌∙◌, arith, rules, tests}
 use Rattle.std.proofs.lemmas.Iterator.{first_from_Range, serves_from_Range}
 use Rattle.modes.specs.Modes.{block_count}
-use Rattle.modes.proofs.Joined.{count_ceil}
+use Rattle.modes.proofs.Joined.{count_ceil, begins_in}
 use Rattle.downloads.specs.Marks.{lowest}
 use Rattle.downloads.specs.Frames.{conflicts}
 use Rattle.downloads.specs.Received.{body_in, copies_of}
-use Rattle.downloads.proofs.Framing.{framed, begins, blocks_within, conflicts_past}
+use Rattle.downloads.proofs.Framing.{framed, blocks_within, conflicts_past}
 use Rattle.downloads.proofs.Lowest.{searched}
 use Rattle.downloads.proofs.Windows.{window}
 use Rattle.downloads.proofs.frames.first_conflict.Goals as goal
@@ -19,7 +19,7 @@ find-requires c =
     record {
       can = tt;
       finite = tt;
-      callable = serves_from_Range (λ x q k. search (rules, tests)) (λ x low high. let l : n * (x - f) < bytes = begins n (x - f) bytes c.requires.small.0 (omega (arith, many, low, high)) in search rules);
+      callable = serves_from_Range (λ x q k. search (rules, tests)) (λ x low high. let l : n * (x - f) < bytes = begins_in n bytes (x - f) c.requires.small.0 (omega (arith, many, low, high)) in search rules);
     }
 
 pub returns : goal.returns
