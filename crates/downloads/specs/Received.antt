@@ -1,5 +1,5 @@
 -- What is lent of a download: what a body buffer and an arrival record hold, and what the calls say of it.
-use Rattle.std.specs.Prelude.{ℕ, Bool, List, length, Result}
+use Rattle.std.specs.Prelude.{◌≡◌, ℕ, Bool, List, length, Result}
 use Rattle.refusals.specs.Codes.{Code}
 use Rattle.blocks.specs.Ciphers.{BlockMap}
 use Rattle.sections.specs.Entries.{Described}
@@ -27,6 +27,11 @@ copies_of n r = copies_in n (body_in r) (marks_of r)
 -- they are as long as a section's must be
 abbrev pub stores : Described → Received → Bool
 stores s r = good_store s (length (body_in r)) (length (marks_of r))
+
+-- the same body and record are lent
+pub record SameLoans (r r' : Received) : Type 0 where
+  pub body : r'.body.ghost_name ≡ r.body.ghost_name
+  pub arrivals : r'.arrivals.ghost_name ≡ r.arrivals.ghost_name
 
 -- ---- what the calls answer and leave
 

@@ -6,7 +6,7 @@ ghost use Rattle.modes.specs.Modes.{block_count};
 ghost use Rattle.sections.specs.Meaning.{meaning_of, sections_in};
 ghost use Rattle.downloads.specs.Marks.{lowest, put_at};
 ghost use Rattle.downloads.specs.Frames.{block_of, good_frame, conflicts, with_frame, body_after, marks_after};
-ghost use Rattle.downloads.specs.Received.{body_in, marks_of, copies_of, open_said, frame_said, close_said};
+ghost use Rattle.downloads.specs.Received.{body_in, marks_of, copies_of, SameLoans, open_said, frame_said, close_said};
 ghost use Rattle.downloads.specs.States.{section_in, moved_on, stays};
 
 use crate::arrivals::Arrival;
@@ -92,6 +92,7 @@ pub fn open<C: BlockCipher>(
     received: &mut Received<'_>,
 ) -> Result<Receiving, Refusal>
     ensures answer { answer section_in result ≡ open_said (sections_in listing.now) number (C.BlockCipher.map cipher.now).size received.old }
+    ensures same { SameLoans received.old received.new }
     ensures body { body_in received.new ≡ body_in received.old }
     ensures arrivals { marks_of received.new ≡ unless (open_said (sections_in listing.now) number (C.BlockCipher.map cipher.now).size received.old) (marks_of received.old) (replicate (length (marks_of received.old)) Arrival.Missing) }
 {
@@ -113,6 +114,7 @@ impl Receiving {
     ) -> Result<Receiving, Refused<Receiving>>
         ensures answer { moved_on result ≡ frame_said (section_in self) received.old first frame.now }
         ensures state { stays section_in section_in result ≡ section_in self }
+        ensures same { SameLoans received.old received.new }
         ensures body { body_in received.new ≡ unless (frame_said (section_in self) received.old first frame.now) (body_in received.old) (body_after (block_of (section_in self)) first frame.now (body_in received.old)) }
         ensures arrivals { marks_of received.new ≡ unless (frame_said (section_in self) received.old first frame.now) (marks_of received.old) (marks_after (block_of (section_in self)) first frame.now (marks_of received.old)) }
         ensures copies { copies_of (block_of (section_in self)) received.new ≡ unless (frame_said (section_in self) received.old first frame.now) (copies_of (block_of (section_in self)) received.old) (with_frame (block_of (section_in self)) (copies_of (block_of (section_in self)) received.old) first frame.now) }
