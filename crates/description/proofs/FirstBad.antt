@@ -1,12 +1,12 @@
 -- The first bad line decides.
-use Rattle.std.proofs.Common.{◌≡◌, ℕ, ◌+◌, ◌≤◌, Bool, true, false, cond, ◌⊎◌, List, [], ◌∷◌, ◌++◌, length, Some, None, Ok, Err, Option, Result, sym, refl, ap, ◌∙◌, inl, inr, arith, length-append}
+use Rattle.std.proofs.Common.{◌≡◌, ℕ, ◌+◌, ◌≤◌, ◌⊎◌, List, [], ◌∷◌, ◌++◌, length, Some, None, Ok, Err, Option, Result, sym, refl, ap, ◌∙◌, inl, inr, arith, length-append}
 use Rattle.std.proofs.lemmas.Bool.{eq-eqb, ne_eqb, cases_eq}
 use Rattle.refusals.specs.declared.Reason.{Reason}
 use Rattle.refusals.specs.declared.Reason.TheVariants.{MissingPart}
 use Rattle.refusals.specs.Codes.{Code}
 use Rattle.description.specs.Text.{lines}
 use Rattle.description.specs.Words.{tokens}
-use Rattle.description.specs.Judge.{Described, Draft, blank, needed, completed, refused, onward, judged_line, judged_lines, all_given}
+use Rattle.description.specs.Judge.{Described, Draft, blank, needed, completed, refused, onward, judged_line, judged_lines, all_rows}
 use Rattle.description.specs.Laws.{FirstBadLineDecides}
 use Rattle.description.proofs.Judged.{lines_step, judged_from, from_first}
 
@@ -30,14 +30,10 @@ missing_3 : {X : Type 0} (which : ℕ) (o : Option X) (next : X → Result Descr
 missing_3 which None next e h q = let p : refused MissingPart which ≡ e = cc in sym (ap (λ c. c.number) p)
 missing_3 which (Some x) next e h q = h x q
 
-last_3 : (all : Bool) (d : Described) (e : Code) → cond all (Ok d) (Err (refused MissingPart 5)) ≡ Err e → e.number ≡ 3
-last_3 true d e q = cc
-last_3 false d e q = let p : refused MissingPart 5 ≡ e = cc in sym (ap (λ c. c.number) p)
-
 completed_3 : (d : Draft) (e : Code) → completed d ≡ Err e → e.number ≡ 3
 unfolding completed
 completed_3 d e q =
-    missing_3 1 d.kind _ e (λ kind. missing_3 2 d.page_length _ e (λ page_length. missing_3 3 d.page_count _ e (λ page_count. missing_3 4 d.fill _ e (λ fill. last_3 (all_given d.given) _ e)))) q
+    missing_3 1 d.kind _ e (λ kind. missing_3 2 d.page_length _ e (λ page_length. missing_3 3 d.page_count _ e (λ page_count. missing_3 4 d.fill _ e (λ fill. missing_3 5 (all_rows d.rows) _ e (λ rows p. cc p))))) q
 
 -- ---- the law
 

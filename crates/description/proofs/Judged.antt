@@ -1,12 +1,15 @@
 -- Judging a text line by line.
-use Rattle.std.proofs.Common.{◌≡◌, ℕ, ◌+◌, ◌<◌, ◌≤◌, ◌⊎◌, List, [], ◌∷◌, length, Ok, Err, Result, sym, refl, ap, ◌∙◌, inl, inr, arith}
+use Rattle.std.proofs.Common.{◌≡◌, ℕ, ◌+◌, ◌<◌, ◌≤◌, true, ◌⊎◌, List, [], ◌∷◌, length, is_ok, OnOk, Ok, Err, Result, sym, refl, ap, ◌∙◌, subst, inl, inr, arith}
 use Rattle.std.proofs.lemmas.Bool.{eq-eqb, ne_eqb, cases_eq, le-leb, lt-leb}
+use Rattle.std.specs.Result.{MatchResult, IsErrAnd}
 use Rattle.refusals.specs.declared.Reason.{Reason}
+use Rattle.refusals.specs.declared.Refusal.{Refusal}
 use Rattle.refusals.specs.declared.Reason.TheVariants.{WrongSize}
-use Rattle.refusals.specs.Codes.{Code}
+use Rattle.refusals.specs.Codes.{Code, code_of}
 use Rattle.description.specs.Text.{lines, words}
 use Rattle.description.specs.Words.{tokens}
 use Rattle.description.specs.Judge.{Described, Draft, blank, judged_line, judged_lines, judged, completed, refused}
+use Rattle.description.specs.Meaning.{taken}
 use Rattle.description.specs.Scan.{line_of, after_line, ahead}
 
 -- what is left of a text, from line n on
@@ -69,6 +72,18 @@ taken_line n m d d' xs ys h e count =
       | inl z ↦ next_line n d d' xs h ∙ (at_end (n + 1) d' (after_line xs) (sym (ap length e) ∙ z) ∙ sym (at_end m d' ys z))
       | inr some ↦ let c : m ≡ n + 1 = count (omega arith) in rw (e, c) (next_line n d d' xs h)
     ]
+
+-- a line as it was read: where the reading goes on, and where it ends
+pub went_on : (r : Result Unit Reason) (d : Draft) (x : Result Draft Reason) (P : Type 0) → true ≡ is_ok r → taken r d ≡ x → OnOk r P → (x ≡ Ok d) × P
+went_on (Ok u) d x P e t h = (sym t, h)
+went_on (Err why) d x P e t h = absurd (let f : ◌≡◌ {A = ℕ} 0 1 = cc e in omega arith)
+
+pub stopped_at : (r : Result Unit Reason) (m : Result Unit Refusal) (Q : Reason → Refusal → Type 0) (n : ℕ) (d d' : Draft) (xs : List ℕ) (y : Refusal) →
+    m ≡ Err y → taken r d' ≡ judged_line d (ahead xs) → MatchResult r (λ x. m ≡ Ok x) (λ e. IsErrAnd m (Q e)) →
+    ((e : Reason) (z : Refusal) → Q e z → code_of z ≡ refused e n) → judged_from n d xs ≡ Err (code_of y)
+stopped_at (Ok u) m Q n d d' xs y is t h q = absurd (let f : ◌≡◌ {A = ℕ} 0 1 = cc (is, h) in omega arith)
+stopped_at (Err why) m Q n d d' xs y is t h q =
+    refused_line n d xs why (sym t) ∙ ap Err (sym (q why y (subst (λ r. IsErrAnd r (Q why)) is h)))
 
 -- ---- the whole text
 

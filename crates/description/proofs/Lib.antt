@@ -5,4 +5,3 @@ pub mod Marks
 pub mod Numbers
 pub mod Judged
 pub mod FirstBad
-pub mod FirstWord

@@ -1,12 +1,13 @@
 -- The numbers of a box line, taken in one after another.
-use Rattle.std.proofs.Common.{◌≡◌, ℕ, ◌<◌, ◌≤◌, true, false, ◌&&◌, eqb, ltb, leb, List, [], ◌∷◌, ◌++◌, length, Some, None, Option, refl, ap, arith, length-append}
+use Rattle.std.proofs.Common.{◌≡◌, ℕ, ◌<◌, ◌≤◌, true, false, ◌&&◌, eqb, ltb, leb, List, [], ◌∷◌, ◌++◌, length, Some, None, Ok, Err, Option, refl, ap, arith}
+use Rattle.std.specs.Option.{ok_or}
 use Rattle.std.proofs.lemmas.Bool.{lt-ltb, le-ltb, ne_eqb, and_left, and_right, and_from, and_parts}
+use Rattle.refusals.specs.declared.Reason.{Reason}
+use Rattle.refusals.specs.declared.Reason.TheVariants.{MalformedLine}
 use Rattle.gost.specs.Tables.{narrow_row}
-use Rattle.description.specs.declared.words.Word.{Word}
-use Rattle.description.specs.declared.words.Word.TheVariants as word
+use Rattle.description.specs.Words.{Token, keyword, number, other}
 use Rattle.description.specs.Judge.{added, all_numbers}
-use Rattle.description.specs.Meaning.{NoRow}
-use Rattle.description.specs.Scan.{seen, ahead, Next}
+use Rattle.description.specs.Meaning.{NoRow, first_number, end_answer}
 
 -- the numbers ns in front of those that follow
 abbrev pub prefixed : List ℕ → Option (List ℕ) → Option (List ℕ)
@@ -55,24 +56,25 @@ no_number : (row : ℕ) (ns : List ℕ) → NoRow (added row (prefixed ns None))
 no_number row ns d = rw (prefixed_none ns)
 
 -- a word that is no number, before the sixteenth
-pub stopped : (w : Word) (xs ys : List ℕ) (m n row : ℕ) (ns : List ℕ) → Next (seen w) xs m ys n → ((x : ℕ) → w ≡ word.Number x → ⊥) → length ns < 16 → NoRow (added row (prefixed ns (all_numbers (ahead xs))))
-stopped (word.Keyword k) xs ys m n row ns next not h = rw next.0 (no_number row ns)
-stopped (word.Number x) xs ys m n row ns next not h = absurd (not x refl)
-stopped (word.Other bytes) xs ys m n row ns next not h = rw next.0 (no_number row ns)
-stopped word.EndOfLine xs ys m n row ns next not h = rw (next.0, prefixed_all ns) (no_count row ns (λ e. omega arith))
+pub stopped : (ts : List Token) (row : ℕ) (ns : List ℕ) → first_number ts ≡ None → length ns < 16 → NoRow (added row (prefixed ns (all_numbers ts)))
+stopped [] row ns none h = rw (prefixed_all ns) (no_count row ns (λ e. omega arith))
+stopped (keyword k ∷ ts) row ns none h = no_number row ns
+stopped (number x ∷ ts) row ns none h = λ d. cc none
+stopped (other bytes ∷ ts) row ns none h = no_number row ns
 
 -- a number over 15
 pub too_wide : (row : ℕ) (ns : List ℕ) (n : ℕ) (o : Option (List ℕ)) → 15 < n → NoRow (added row (prefixed ns (added n o)))
 too_wide row ns n None h = no_number row ns
 too_wide row ns n (Some ms) h = rw (prefixed_some ns (n ∷ ms)) (no_wide row (ns ++ n ∷ ms) (wide ns n ms h))
 
--- a word after the sixteenth number
-more_numbers : (row : ℕ) (ns : List ℕ) (n : ℕ) (o : Option (List ℕ)) → length ns ≡ 16 → NoRow (added row (prefixed ns (added n o)))
-more_numbers row ns n None h = no_number row ns
-more_numbers row ns n (Some ms) h = rw (prefixed_some ns (n ∷ ms)) (no_count row (ns ++ n ∷ ms) (λ e. omega (arith, length-append ns (n ∷ ms))))
+-- ---- what was read
 
-pub too_many : (w : Word) (xs ys : List ℕ) (m n row : ℕ) (ns : List ℕ) → Next (seen w) xs m ys n → (w ≡ word.EndOfLine → ⊥) → length ns ≡ 16 → NoRow (added row (prefixed ns (all_numbers (ahead xs))))
-too_many (word.Keyword k) xs ys m n row ns next not h = rw next.0 (no_number row ns)
-too_many (word.Number x) xs ys m n row ns next not h = rw next.0 (more_numbers row ns x (all_numbers (ahead ys)) h)
-too_many (word.Other bytes) xs ys m n row ns next not h = rw next.0 (no_number row ns)
-too_many word.EndOfLine xs ys m n row ns next not h = absurd (not refl)
+-- what could not be read
+pub unread : {X : Type 0} (o : Option X) (why : Reason) → Err why ≡ ok_or o MalformedLine → (why ≡ MalformedLine) × (o ≡ None)
+unread None why e = (cc e, refl)
+unread (Some x) why e = (cc e, cc e)
+
+-- the end of a line
+pub ended : (ts : List Token) (u : Unit) → Ok u ≡ end_answer ts → ts ≡ []
+ended [] u e = refl
+ended (t ∷ ts) u e = absurd (let f : ◌≡◌ {A = ℕ} 0 1 = cc e in omega arith)

@@ -1,6 +1,7 @@
 -- How a description is judged: line by line, within a line a malformed or disallowed one before a
 -- repeated one, and at the end the lowest part that is missing.
 use Rattle.std.specs.Prelude.{ℕ, ◌+◌, ◌-◌, Bool, true, false, cond, ◌&&◌, ◌||◌, List, [], ◌∷◌, length, replicate, is_some, Some, None, Ok, Err, Option, Result, ◌==◌, nat_le, nat_lt, slice_index_or, slice_set}
+use Rattle.std.specs.Option.{option_map}
 use Rattle.refusals.specs.declared.Reason.{Reason}
 use Rattle.refusals.specs.declared.Reason.TheVariants.{MalformedLine, RepeatedLine, MissingPart, WrongSize}
 use Rattle.refusals.specs.declared.Layer.TheVariants.{Description}
@@ -33,12 +34,11 @@ pub record Draft : Type 0 where
   pub locked : List Bool
   -- how many pages are locked
   pub locks : ℕ
-  pub rows : Rows
-  -- which rows were given
-  pub given : List Bool
+  -- the rows that were given
+  pub rows : List (Option (List ℕ))
 
 abbrev pub blank : Draft
-blank = record { kind = None; page_length = None; page_count = None; fill = None; locked = replicate 1024 false; locks = 0; rows = replicate 8 (replicate 16 0); given = replicate 8 false }
+blank = record { kind = None; page_length = None; page_count = None; fill = None; locked = replicate 1024 false; locks = 0; rows = replicate 8 None }
 
 -- ---- the words after the first
 
@@ -86,41 +86,41 @@ abbrev pub kind_line : Draft → Option TargetKind → Result Draft Reason
 kind_line d None = Err MalformedLine
 kind_line d (Some k) =
     ruled true (is_some d.kind)
-    (record { kind = Some k; page_length = d.page_length; page_count = d.page_count; fill = d.fill; locked = d.locked; locks = d.locks; rows = d.rows; given = d.given })
+    (record { kind = Some k; page_length = d.page_length; page_count = d.page_count; fill = d.fill; locked = d.locked; locks = d.locks; rows = d.rows })
 
 -- the product is judged at the first line to give both of its factors
 abbrev pub page_line : Draft → Option ℕ → Result Draft Reason
 page_line d None = Err MalformedLine
 page_line d (Some n) =
     ruled (allowed_length n && (is_some d.page_length || fits_count n d.page_count)) (is_some d.page_length)
-    (record { kind = d.kind; page_length = Some n; page_count = d.page_count; fill = d.fill; locked = d.locked; locks = d.locks; rows = d.rows; given = d.given })
+    (record { kind = d.kind; page_length = Some n; page_count = d.page_count; fill = d.fill; locked = d.locked; locks = d.locks; rows = d.rows })
 
 abbrev pub pages_line : Draft → Option ℕ → Result Draft Reason
 pages_line d None = Err MalformedLine
 pages_line d (Some n) =
     ruled (allowed_count n && (is_some d.page_count || fits_length n d.page_length)) (is_some d.page_count)
-    (record { kind = d.kind; page_length = d.page_length; page_count = Some n; fill = d.fill; locked = d.locked; locks = d.locks; rows = d.rows; given = d.given })
+    (record { kind = d.kind; page_length = d.page_length; page_count = Some n; fill = d.fill; locked = d.locked; locks = d.locks; rows = d.rows })
 
 abbrev pub fill_line : Draft → Option ℕ → Result Draft Reason
 fill_line d None = Err MalformedLine
 fill_line d (Some n) =
     ruled (nat_le n 255) (is_some d.fill)
-    (record { kind = d.kind; page_length = d.page_length; page_count = d.page_count; fill = Some n; locked = d.locked; locks = d.locks; rows = d.rows; given = d.given })
+    (record { kind = d.kind; page_length = d.page_length; page_count = d.page_count; fill = Some n; locked = d.locked; locks = d.locks; rows = d.rows })
 
 -- the page count comes earlier, and sixteen pages at most are locked
 abbrev pub lock_line : Draft → Option ℕ → Result Draft Reason
 lock_line d None = Err MalformedLine
 lock_line d (Some page) =
     ruled (nat_lt d.locks 16 && below page d.page_count) (slice_index_or d.locked page false)
-    (record { kind = d.kind; page_length = d.page_length; page_count = d.page_count; fill = d.fill; locked = slice_set d.locked page true; locks = d.locks + 1; rows = d.rows; given = d.given })
+    (record { kind = d.kind; page_length = d.page_length; page_count = d.page_count; fill = d.fill; locked = slice_set d.locked page true; locks = d.locks + 1; rows = d.rows })
 
 -- a row from 1 to 8 and sixteen numbers from 0 to 15
 abbrev pub box_line : Draft → Option (List ℕ) → Result Draft Reason
 box_line d None = Err MalformedLine
 box_line d (Some []) = Err MalformedLine
 box_line d (Some (row ∷ ns)) =
-    ruled (nat_le 1 row && (nat_le row 8 && (length ns == 16 && narrow_row ns))) (slice_index_or d.given (row - 1) false)
-    (record { kind = d.kind; page_length = d.page_length; page_count = d.page_count; fill = d.fill; locked = d.locked; locks = d.locks; rows = slice_set d.rows (row - 1) ns; given = slice_set d.given (row - 1) true })
+    ruled (nat_le 1 row && (nat_le row 8 && (length ns == 16 && narrow_row ns))) (is_some (slice_index_or d.rows (row - 1) None))
+    (record { kind = d.kind; page_length = d.page_length; page_count = d.page_count; fill = d.fill; locked = d.locked; locks = d.locks; rows = slice_set d.rows (row - 1) (Some ns) })
 
 -- the first word decides
 abbrev pub keyword_line : Draft → Keyword → List Token → Result Draft Reason
@@ -153,16 +153,16 @@ abbrev pub needed : {X Y : Type 0} → ℕ → Option X → (X → Result Y Code
 needed which None next = Err (refused MissingPart which)
 needed which (Some x) next = next x
 
-abbrev pub all_given : List Bool → Bool
-all_given [] = true
-all_given (b ∷ bs) = b && all_given bs
+-- the rows, if each of them was given
+abbrev pub all_rows : List (Option (List ℕ)) → Option Rows
+all_rows [] = Some []
+all_rows (None ∷ rows) = None
+all_rows (Some row ∷ rows) = option_map (λ rs. row ∷ rs) (all_rows rows)
 
 unfoldable pub completed : Draft → Result Described Code
 completed d =
-    needed 1 d.kind (λ kind. needed 2 d.page_length (λ page_length. needed 3 d.page_count (λ page_count. needed 4 d.fill (λ fill.
-    cond (all_given d.given)
-    (Ok (record { kind = kind; page_length = page_length; page_count = page_count; fill = fill; locked = d.locked; rows = d.rows }))
-    (Err (refused MissingPart 5))))))
+    needed 1 d.kind (λ kind. needed 2 d.page_length (λ page_length. needed 3 d.page_count (λ page_count. needed 4 d.fill (λ fill. needed 5 (all_rows d.rows) (λ rows.
+    Ok (record { kind = kind; page_length = page_length; page_count = page_count; fill = fill; locked = d.locked; rows = rows }))))))
 
 -- ---- the whole text, whose lines are counted from 1
 

@@ -5,3 +5,4 @@ pub mod Judge
 pub mod Scan
 pub mod Meaning
 pub mod Laws
+pub mod Kinds

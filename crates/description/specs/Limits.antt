@@ -1,6 +1,7 @@
 -- What the parts of a description may be.
 use Rattle.std.specs.Prelude.{◌≡◌, ℕ, ◌*◌, ◌%◌, ◌<◌, ◌≤◌, Bool, true, false, ◌&&◌, List, length, Some, None, Option, ◌==◌, nat_le, nat_lt, slice_index_or}
-use Rattle.gost.specs.Tables.{Rows, Checked}
+use Rattle.std.specs.List.{list_all}
+use Rattle.gost.specs.Tables.{narrow_row}
 
 -- a page length: a multiple of 16 from 16 to 4,096
 abbrev pub allowed_length : ℕ → Bool
@@ -47,7 +48,12 @@ abbrev pub sound_count : Option ℕ → Option ℕ → Bool
 sound_count page_length None = true
 sound_count page_length (Some n) = allowed_count n && fits_length n page_length
 
-abbrev pub Sound : Option ℕ → Option ℕ → List Bool → Rows → Type 0
+abbrev pub sound_row : Option (List ℕ) → Bool
+sound_row None = true
+sound_row (Some row) = narrow_row row
+
+abbrev pub Sound : Option ℕ → Option ℕ → List Bool → List (Option (List ℕ)) → Type 0
 Sound page_length page_count locked rows =
     (sound_length page_length ≡ true) × (sound_count page_length page_count ≡ true)
-    × ((page : ℕ) → slice_index_or locked page false ≡ true → below page page_count ≡ true) × Checked rows
+    × ((page : ℕ) → slice_index_or locked page false ≡ true → below page page_count ≡ true)
+    × (length rows ≡ 8) × (list_all sound_row rows ≡ true)

@@ -1,5 +1,6 @@
 -- How the words of a text are read one after another.
-use Rattle.std.specs.Prelude.{◌≡◌, ℕ, ◌+◌, ◌<◌, cond, List, [], ◌∷◌, length, ◌==◌}
+use Rattle.std.specs.Prelude.{◌≡◌, ℕ, ◌+◌, ◌<◌, cond, List, [], ◌∷◌, length, Some, None, Option, ◌==◌}
+use Rattle.std.specs.Option.{option_map}
 use Rattle.description.specs.declared.scanner.Scanner.{Scanner}
 use Rattle.description.specs.declared.words.Word.{Word}
 use Rattle.description.specs.declared.words.Word.TheVariants as word
@@ -15,16 +16,14 @@ abbrev pub word_len : List ℕ → ℕ
 word_len [] = 0
 word_len (x ∷ xs) = cond (x == 32) 0 (cond (x == 10) 0 (word_len xs + 1))
 
--- a word as it was read: what it is, or that the line ended
-pub data Seen : Type 0 where
-  some : Token → Seen
-  end : Seen
+-- a word as it was read: what it is, or none where the line ended
+abbrev pub token_in : Word → Token
+token_in (word.Keyword k) = keyword k
+token_in (word.Number n) = number n
+token_in (word.Other bytes) = other bytes.now
 
-abbrev pub seen : Word → Seen
-seen (word.Keyword k) = some (keyword k)
-seen (word.Number n) = some (number n)
-seen (word.Other bytes) = some (other bytes.now)
-seen word.EndOfLine = end
+abbrev pub seen : Option Word → Option Token
+seen = option_map token_in
 
 -- what a scanner has yet to read, and the line that it is at
 abbrev pub rest_of : Scanner → List ℕ
@@ -47,9 +46,9 @@ unfoldable pub ahead : List ℕ → List Token
 ahead xs = tokens (line_of xs)
 
 -- one word on, from xs at line m to ys at line n; a line's end is counted where text is left
-abbrev pub Next : Seen → List ℕ → ℕ → List ℕ → ℕ → Type 0
-Next (some t) xs m ys n = (ahead xs ≡ t ∷ ahead ys) × (after_line ys ≡ after_line xs) × (n ≡ m)
-Next end xs m ys n = (ahead xs ≡ []) × (ys ≡ after_line xs) × (0 < length ys → n ≡ m + 1)
+abbrev pub Next : Option Token → List ℕ → ℕ → List ℕ → ℕ → Type 0
+Next (Some t) xs m ys n = (ahead xs ≡ t ∷ ahead ys) × (after_line ys ≡ after_line xs) × (n ≡ m)
+Next None xs m ys n = (ahead xs ≡ []) × (ys ≡ after_line xs) × (0 < length ys → n ≡ m + 1)
 
 -- the line was read to its end
 abbrev pub Ended : Scanner → Scanner → Type 0

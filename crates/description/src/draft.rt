@@ -13,7 +13,6 @@ pub struct Draft {
     pub(crate) fill: Option<u8>,
     pub(crate) locked: [bool; 1024],
     pub(crate) locks: u32,
-    pub(crate) rows: [[u8; 16]; 8],
-    pub(crate) given: [bool; 8],
+    pub(crate) rows: [Option<[u8; 16]>; 8],
     ghost sound: { Sound page_length page_count locked rows },
 }

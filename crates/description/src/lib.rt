@@ -20,9 +20,11 @@
 mod draft;
 mod finish;
 mod keywords;
+mod kinds;
 mod lines;
 pub mod parts;
 mod reading;
+mod row;
 mod scan;
 mod scanner;
 mod words;
@@ -45,6 +47,7 @@ const LONGEST: usize = 4096;
 
 /// Reads a description. The first line that is malformed or repeats an earlier one is refused at its
 /// number, and a part that is missing at the end by its own.
+#[tactic(auto, using(crate::proofs::FirstBad::first_bad))]
 pub fn describe(text: &[u8]) -> Result<Description, Refusal>
     ensures value { answer meaning_of result ≡ judged text.now }
     ensures prefix { FirstBadLineDecides }
@@ -56,9 +59,7 @@ pub fn describe(text: &[u8]) -> Result<Description, Refusal>
     let mut draft = Draft::new();
     while !scanner.rest.is_empty() {
         let line = scanner.line;
-        if let Err(reason) = read_line(&mut scanner, &mut draft) {
-            return Err(refusal(reason, line));
-        }
+        read_line(&mut scanner, &mut draft).map_err(|reason| refusal(reason, line))?;
     }
     finish(&draft)
 }

@@ -19,7 +19,7 @@ impl<'a> Scanner<'a> {
     }
 
     /// The next word, or the end of the line, which is taken too.
-    pub(crate) fn next_word(&mut self) -> Word<'a>
+    pub(crate) fn next_word(&mut self) -> Option<Word<'a>>
         ensures { Next (seen result) (rest_of self.old) (line_at self.old) (rest_of self.new) (line_at self.new) }
     {
         let text = self.rest;
@@ -33,10 +33,10 @@ impl<'a> Scanner<'a> {
             } else {
                 self.rest = from;
             }
-            return Word::EndOfLine;
+            return None;
         }
         let (word, rest) = from.split_at(len);
         self.rest = rest;
-        class(word)
+        Some(class(word))
     }
 }

@@ -1,34 +1,33 @@
 //! The words of a description, which borrow its text.
 
-ghost use Rattle.std.specs.Prelude.{◌≡◌, ◌≤◌, length};
+ghost use Rattle.std.specs.Prelude.{◌≡◌, ◌≤◌, length, not, ◌&&◌, ◌==◌};
+ghost use Rattle.std.specs.List.{prefix_len};
 ghost use Rattle.description.specs.Words.{number_of, keyword_of, token_of};
-ghost use Rattle.description.specs.Scan.{blank_len, word_len, seen, some};
+ghost use Rattle.description.specs.Scan.{token_in};
 
 use crate::keywords::Keyword;
 
-/// A word of a description, or that the line ends.
+/// A word of a description.
 #[derive(Clone, Copy)]
 pub enum Word<'a> {
     Keyword(Keyword),
     Number(u32),
     Other(&'a [u8]),
-    EndOfLine,
 }
 
 /// The number that one to five decimal digits write.
 fn number(word: &[u8]) -> Option<u32>
     ensures { result ≡ number_of word.now }
 {
-    if word.is_empty() || word.len() > 5 {
+    if !(1..=5).contains(&word.len()) {
         return None;
     }
     let mut n: u32 = 0;
     for b in word {
-        let b = *b;
-        if b < b'0' || b > b'9' {
+        if !b.is_ascii_digit() {
             return None;
         }
-        n = n * 10 + u32::from(b - b'0');
+        n = n * 10 + u32::from(*b - b'0');
     }
     Some(n)
 }
@@ -52,7 +51,7 @@ fn named(word: &[u8]) -> Option<Keyword>
 
 /// What kind of word the bytes are.
 pub(crate) fn class<'a>(word: &'a [u8]) -> Word<'a>
-    ensures { seen result ≡ some (token_of word.now) }
+    ensures { token_in result ≡ token_of word.now }
 {
     if let Some(keyword) = named(word) {
         return Word::Keyword(keyword);
@@ -65,24 +64,18 @@ pub(crate) fn class<'a>(word: &'a [u8]) -> Word<'a>
 
 /// How many of the first bytes are spaces.
 pub(crate) fn blanks(text: &[u8]) -> usize
-    ensures value { result ≡ blank_len text.now }
+    ensures value { result ≡ prefix_len (λ x. x == 32) text.now }
     ensures within { result ≤ length text.now }
 {
-    let mut n = 0;
-    while n < text.len() && text[n] == b' ' {
-        n += 1;
-    }
-    n
+    text.iter().take_while(|b| **b == b' ').count()
 }
 
 /// How many of the first bytes belong to one word.
 pub(crate) fn word_len(text: &[u8]) -> usize
-    ensures value { result ≡ word_len text.now }
+    ensures value { result ≡ prefix_len (λ x. not (x == 32) && not (x == 10)) text.now }
     ensures within { result ≤ length text.now }
 {
-    let mut n = 0;
-    while n < text.len() && text[n] != b' ' && text[n] != b'\n' {
-        n += 1;
-    }
-    n
+    text.iter()
+        .take_while(|b| **b != b' ' && **b != b'\n')
+        .count()
 }
