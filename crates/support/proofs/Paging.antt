@@ -1,7 +1,9 @@
 -- Images followed by fill.
-use Rattle.std.proofs.Common.{◌≡◌, ℕ, ◌+◌, ◌-◌, ◌*◌, ◌<◌, ◌≤◌, cond, ltb, List, ◌++◌, length, get_or, take, drop, replicate, sym, refl, ap, ◌∙◌, inl, inr, arith, length-drop, length-take, take-add}
+use Rattle.std.proofs.Common.{◌≡◌, ℕ, zero, suc, ◌+◌, ◌-◌, ◌*◌, ◌<◌, ◌≤◌, cond, ltb, List, ◌++◌, length, get_or, take, drop, replicate, sym, refl, ap, ◌∙◌, subst, inl, inr, arith, length-drop, length-take, take-add}
 use Rattle.std.proofs.lemmas.List.{length-append, length-replicate, get_or_append_left, get_or-append_right, get_or-replicate, get_or-take, get_or-drop, same_lists, get_or_default}
-use Rattle.std.proofs.lemmas.Bool.{cases_lt, lt-ltb, le-ltb}
+use Rattle.std.proofs.lemmas.Bool.{cases_eq, cases_lt, lt-ltb, le-ltb}
+use denote.Param.Members.{Mut, Called}
+use Rattle.std.specs.Array.{IsFromFnResultFrom}
 use Rattle.blocks.specs.Bytes.{block}
 
 abbrev pub byte_at : List ℕ → ℕ → ℕ → ℕ
@@ -34,3 +36,14 @@ block_is image fill more i bytes l h at =
     ∙ (at k (omega arith)
     ∙ (sym (byte_is image fill more (8 * i + k) d (omega arith))
     ∙ (sym (get_or-drop (8 * i) text k d) ∙ sym (get_or-take 8 (drop (8 * i) text) k d (omega arith))))))
+
+-- an array that calls made, of which each gives h of its index
+module _ {F : Type 0} (g : Mut F (ℕ × Unit {0}) ℕ) (f : F) (h : ℕ → ℕ) (learnt : (x y : ℕ) (q : F) → Called g f (x, tt) y q → (q ≡ f) × (y ≡ h x)) where
+  pub made_from : (ys : List ℕ) (i n : ℕ) → IsFromFnResultFrom g f ys i n → (k d : ℕ) → i ≤ k → k < i + n → get_or ys k d ≡ h k
+  made_from ys i zero each k d low high = absurd (omega arith)
+  made_from ys i (suc n) each k d low high =
+      let on = learnt i each.1 each.0 each.3 in
+      elim (cases_eq k i) [
+        | inl e ↦ rw e (each.2.1 d ∙ on.1)
+        | inr later ↦ made_from ys (i + 1) n (subst (λ (p : F). IsFromFnResultFrom g p ys (i + 1) n) on.0 each.4) k d (omega arith) (omega arith)
+      ]

@@ -2,12 +2,23 @@
 use Rattle.std.proofs.Common.{◌≡◌, ℕ, ◌+◌, ◌-◌, ◌*◌, ◌/◌, ◌%◌, ◌<◌, ◌≤◌, leb, List, length, Ok, Result, sym, ap, ◌∙◌, inl, inr, mul_assoc, mul_comm, arith}
 use Rattle.std.proofs.lemmas.Nat.{div-add-mod', mod_below}
 use Rattle.std.proofs.lemmas.Bool.{and_parts, leb-true, le-leb, cases_Bool}
+use Rattle.std.specs.Int.{div_ceil}
+use Rattle.std.proofs.Math.Nat.{div-eq_of_lt-le, add-mul}
+use Rattle.std.proofs.lemmas.Grind.{div_ceil_times}
 use Rattle.refusals.specs.Codes.{Code}
 use Rattle.imitovstavka.specs.Chain.{imitovstavka, imitovstavka_answer}
 use Rattle.imitovstavka.specs.Parts.{length_answer}
 use Rattle.description.specs.Judge.{Described, judged}
 use Rattle.support.specs.Images.{allowed_image, pages_for, paged}
 use Rattle.support.specs.Reports.{Reported, report, key_answer, pages_answer, support_answer}
+
+-- a quotient rounded up
+pub rounded_up : (page_length n : ℕ) → 0 < page_length → div_ceil n page_length ≡ pages_for page_length n
+rounded_up page_length n some =
+    let k : ℕ = div_ceil n page_length in
+    let times = div_ceil_times n page_length some in
+    let more : (k + 1) * page_length ≡ k * page_length + page_length = add-mul k 1 page_length ∙ omega arith in
+    sym (div-eq_of_lt-le page_length (omega arith) (omega arith))
 
 -- pages that were counted, and of which length of image
 pub pages_counted : (page_length page_count n pages : ℕ) → Ok pages ≡ pages_answer page_length page_count n →

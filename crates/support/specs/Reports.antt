@@ -2,7 +2,7 @@
 use Rattle.std.specs.Prelude.{ℕ, cond, List, length, drop, Ok, Err, Result, ◌==◌, nat_le}
 use Rattle.refusals.specs.declared.Reason.TheVariants.{WrongBuffer, BadLength, BadPages}
 use Rattle.refusals.specs.declared.Layer.TheVariants.{File}
-use Rattle.refusals.specs.Codes.{Code, refuse}
+use Rattle.refusals.specs.Codes.{Code, refuse, then}
 use Rattle.blocks.specs.Bytes.{words}
 use Rattle.imitovstavka.specs.Chain.{imitovstavka}
 use Rattle.description.specs.Judge.{Described, judged}
@@ -45,10 +45,6 @@ pages_answer page_length page_count n =
     cond (allowed_image n)
     (cond (nat_le (pages_for page_length n) page_count) (Ok (pages_for page_length n)) (Err (refuse BadPages 0 File)))
     (Err (refuse BadLength 0 File))
-
-abbrev pub then : {X Y : Type 0} → Result X Code → (X → Result Y Code) → Result Y Code
-then (Ok x) next = next x
-then (Err e) next = Err e
 
 -- the description is judged first, then the keys, then the image
 abbrev pub support_answer : List ℕ → List ℕ → List ℕ → Result Reported Code

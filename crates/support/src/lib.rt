@@ -13,13 +13,15 @@ ghost use Rattle.support.specs.Reports.{report_of, key_answer, pages_answer, sup
 
 use description::describe;
 use description::parts::Description;
+use filled::FilledImage;
+use gost::cipher::Gost;
 use gost::key::spread_key;
 use imitovstavka::imitovstavka;
 use imitovstavka::length::TagLength;
 use refusals::{Layer, Reason, Refusal};
 use report::Report;
-use values::value_with_fill;
 
+mod filled;
 pub mod report;
 pub mod shown;
 mod values;
@@ -40,11 +42,10 @@ fn tag_key(keys: &[u8]) -> Result<[u32; 8], Refusal>
 fn pages_for(target: &Description, image_length: usize) -> Result<u32, Refusal>
     ensures { answer (λ n. n) result ≡ pages_answer target.now.page_length target.now.page_count image_length }
 {
-    if image_length < 9 || image_length > 16384 {
+    if !(9..=16384).contains(&image_length) {
         return Err(Refusal::new(Reason::BadLength, 0, Layer::File));
     }
-    let page_length = target.page_length;
-    let pages = (image_length as u32 + page_length - 1) / page_length;
+    let pages = (image_length as u32).div_ceil(target.page_length);
     if pages > target.page_count {
         return Err(Refusal::new(Reason::BadPages, 0, Layer::File));
     }
@@ -59,9 +60,14 @@ pub fn report_on(text: &[u8], keys: &[u8], image: &[u8]) -> Result<Report, Refus
     let key = tag_key(keys)?;
     let image_pages = pages_for(&target, image.len())?;
     let bits = TagLength::new(32)?;
-    let value = imitovstavka(&target.table, &key, bits, image)?;
+    let cipher = Gost::new(&target.table, &key);
+    let value = imitovstavka(cipher, bits, image)?;
     let blocks = (image_pages * (target.page_length / 8)) as usize;
-    let wrong = value_with_fill(&target.table, &key, bits, image, target.fill, blocks);
+    let filled = FilledImage {
+        image,
+        fill: target.fill,
+    };
+    let wrong = filled.value(cipher, bits, blocks);
     let image_length = image.len() as u32;
     Ok(Report {
         target,

@@ -16,5 +16,7 @@ returns c =
     let blocks = blocks_are target.page_length pages target.allowed.2 in
     let more : ℕ = target.page_length * pages_for target.page_length n - n in
     let all : 8 * (pages * (target.page_length / 8)) ≡ n + more = blocks ∙ (ap (λ (k : ℕ). target.page_length * k) count ∙ omega arith) in
-    reported c.args.text.now c.args.keys.now image c.in_ok-key.key (meaning_of target) pages c.in_ok-bits.bits.bits c.in_ok-value.value c.value_with_fill-wrong.result
-    c.in_ok-target.ensures.value c.in_ok-key.ensures p c.in_ok-bits.ensures c.in_ok-value.ensures (c.value_with_fill-wrong.ensures more all)
+    let rows = c.new-cipher.ensures.table in
+    let key = c.new-cipher.ensures.key in
+    reported c.args.text.now c.args.keys.now image c.in_ok-key.key (meaning_of target) pages c.in_ok-bits.bits.bits c.in_ok-value.value c.value-wrong.result
+    c.in_ok-target.ensures.value c.in_ok-key.ensures p c.in_ok-bits.ensures (rw (rows, key) at c.in_ok-value.ensures) (rw (rows, key) at c.value-wrong.ensures more all)
