@@ -9,13 +9,7 @@ use std::{fs, io};
 /// The bytes of a file. A missing file counts as empty; any other failure is handed on.
 pub fn read_or_empty(rt: &HostRuntime, path: &str) -> io::Result<Vec<u8>> {
     match fs::read(rt, path) {
-        Ok(bytes) => Ok(bytes),
-        Err(e) => {
-            if e.kind() == io::ErrorKind::NotFound {
-                Ok(Vec::new(rt.alloc()))
-            } else {
-                Err(e)
-            }
-        }
+        Err(e) if e.kind() == io::ErrorKind::NotFound => Ok(Vec::new(rt.alloc())),
+        read => read,
     }
 }

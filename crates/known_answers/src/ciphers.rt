@@ -1,7 +1,7 @@
 //! A vector run: what the library makes of it, compared with what is expected.
 
 use crate::fault::Fault;
-use crate::group::Group;
+use crate::group::{Group, Work};
 use crate::vector::Vector;
 use blocks::BlockCipher;
 use gost::cipher::Gost;
@@ -17,26 +17,24 @@ use std::alloc::Global;
 
 /// The number that some bytes are, the lowest first.
 fn number(bytes: &[u8]) -> u64 {
-    let mut n = 0u64;
-    for byte in bytes.iter().rev() {
-        n = (n << 8) | u64::from(*byte);
-    }
-    n
+    bytes
+        .iter()
+        .rev()
+        .fold(0, |n, byte| (n << 8) | u64::from(*byte))
 }
 
 /// The sync of eight or sixteen bytes, or none of none.
 fn sync_of(bytes: &[u8]) -> Result<Option<Sync>, Fault> {
-    match bytes.len() {
-        0 => Ok(None),
-        8 | 16 => {
-            let (first, second) = bytes.split_at(8);
-            Ok(Some(Sync {
-                first: number(first),
-                second: number(second),
-            }))
-        }
-        _ => Err(Fault::Malformed),
-    }
+    let (first, second) = match bytes.as_chunks::<8>() {
+        ([], []) => return Ok(None),
+        ([first], []) => (*first, [0; 8]),
+        ([first, second], []) => (*first, *second),
+        _ => return Err(Fault::Malformed),
+    };
+    Ok(Some(Sync {
+        first: u64::from_le_bytes(first),
+        second: u64::from_le_bytes(second),
+    }))
 }
 
 /// A body deciphered, block by block.
@@ -48,15 +46,11 @@ fn decipher_text<C: BlockCipher>(
     body: &[u8],
 ) -> Result<Vec<u8>, Fault> {
     let mut text = Vec::new(heap);
-    let mut block = vec![in heap; 0u8; cipher.block_length()]?;
-    for i in 0..u32::MAX {
-        if text.len() >= body.len() {
-            break;
-        }
+    let n = cipher.block_length();
+    let mut block = vec![in heap; 0u8; n]?;
+    for (i, _) in (0u32..).zip(body.chunks(n)) {
         let count = decipher_block(cipher, mode, sync, body, i, block.as_mut_slice())?;
-        let Some(plain) = block.as_slice().get(0..count) else {
-            return Err(Fault::Malformed);
-        };
+        let plain = block.as_slice().get(..count).ok_or(Fault::Malformed)?;
         text.extend_from_slice(plain)?;
     }
     Ok(text)
@@ -89,80 +83,67 @@ fn block_both_ways<C: BlockCipher>(heap: Global, cipher: &C, v: &Vector) -> Resu
     Ok(block.as_slice() == v.text.as_slice())
 }
 
-/// Whether the round key with this number, from 1 on, is the expected one.
-fn round_key_agrees(keys: &[[u8; 16]; 10], v: &Vector) -> Result<bool, Fault> {
-    let mut i = 0u64;
-    for key in keys {
-        i = i.saturating_add(1);
-        if i == number(v.sync.as_slice()) {
-            return Ok(key.as_slice() == v.expected.as_slice());
-        }
-    }
-    Err(Fault::Malformed)
-}
-
-/// Runs a vector of Kuznyechik.
-fn kuznyechik_agrees(heap: Global, v: &Vector) -> Result<bool, Fault> {
-    let mut keys = [[0; 16]; 10];
-    kuznyechik::key::spread_key(v.key.as_slice(), &mut keys)?;
-    let cipher = Kuznyechik::new(&keys);
+/// Whether a cipher does its work on a vector as expected, in both directions.
+fn work_agrees<C: BlockCipher>(
+    heap: Global,
+    cipher: &C,
+    work: Work,
+    v: &Vector,
+) -> Result<bool, Fault> {
     let sync = v.sync.as_slice();
     let text = v.text.as_slice();
     let expected = v.expected.as_slice();
-    match v.group {
-        Group::KuznyechikKeys => round_key_agrees(&keys, v),
-        Group::KuznyechikBlock => block_both_ways(heap, &cipher, v),
-        Group::KuznyechikCodebook => both_ways(heap, &cipher, Mode::Codebook, sync, text, expected),
-        Group::KuznyechikDeciphered => {
-            both_ways(heap, &cipher, Mode::Codebook, sync, expected, text)
-        }
-        Group::KuznyechikFeedback => both_ways(heap, &cipher, Mode::Feedback, sync, text, expected),
-        _ => Err(Fault::Malformed),
+    match work {
+        Work::Block => block_both_ways(heap, cipher, v),
+        Work::Enciphered(mode) => both_ways(heap, cipher, mode, sync, text, expected),
+        Work::Deciphered(mode) => both_ways(heap, cipher, mode, sync, expected, text),
     }
 }
 
+/// The round keys of Kuznyechik for a vector's key.
+fn round_keys(v: &Vector) -> Result<[[u8; 16]; 10], Fault> {
+    let mut keys = [[0; 16]; 10];
+    kuznyechik::key::spread_key(v.key.as_slice(), &mut keys)?;
+    Ok(keys)
+}
+
+/// Whether the round key with this number, from 1 on, is the expected one.
+fn round_key_agrees(v: &Vector) -> Result<bool, Fault> {
+    let keys = round_keys(v)?;
+    let i = number(v.sync.as_slice())
+        .checked_sub(1)
+        .ok_or(Fault::Malformed)?;
+    let key = keys.get(i as usize).ok_or(Fault::Malformed)?;
+    Ok(key.as_slice() == v.expected.as_slice())
+}
+
+/// The words of a vector's key.
+fn key_words(v: &Vector) -> Result<[u32; 8], Fault> {
+    let mut words = [0; 8];
+    gost::key::spread_key(v.key.as_slice(), &mut words)?;
+    Ok(words)
+}
+
 /// Whether the imitovstavka is the expected one. It has 32 bits, or what stands for the sync.
-fn imitovstavka_agrees(
-    table: &SubstitutionTable,
-    words: &[u32; 8],
-    v: &Vector,
-) -> Result<bool, Fault> {
+fn imitovstavka_agrees(table: &SubstitutionTable, v: &Vector) -> Result<bool, Fault> {
+    let words = key_words(v)?;
     let bits = match v.sync.as_slice() {
         [] => 32,
         [bits] => *bits,
         _ => return Err(Fault::Malformed),
     };
-    let value = imitovstavka(table, words, TagLength::new(bits)?, v.text.as_slice())?;
+    let value = imitovstavka(table, &words, TagLength::new(bits)?, v.text.as_slice())?;
     Ok(value.to_le_bytes().as_slice() == v.expected.as_slice())
 }
 
-/// Runs a vector of GOST 28147-89 with table CryptoPro-A.
-fn gost_agrees(heap: Global, v: &Vector) -> Result<bool, Fault> {
-    let table = SubstitutionTable::new(TABLE_A)?;
-    let mut words = [0; 8];
-    gost::key::spread_key(v.key.as_slice(), &mut words)?;
-    let cipher = Gost::new(&table, &words);
-    let sync = v.sync.as_slice();
-    let text = v.text.as_slice();
-    let expected = v.expected.as_slice();
-    match v.group {
-        Group::GostCodebook => both_ways(heap, &cipher, Mode::Codebook, sync, text, expected),
-        Group::GostDeciphered => both_ways(heap, &cipher, Mode::Codebook, sync, expected, text),
-        Group::GostCounter => both_ways(heap, &cipher, Mode::Counter, sync, text, expected),
-        Group::GostFeedback => both_ways(heap, &cipher, Mode::Feedback, sync, text, expected),
-        Group::Imitovstavka | Group::ImitovstavkaAtL => imitovstavka_agrees(&table, &words, v),
-        _ => Err(Fault::Malformed),
-    }
-}
-
-/// Whether what the library makes of a vector is what is expected, in both directions.
+/// Whether what the library makes of a vector is what is expected, in both directions. Vectors of
+/// GOST 28147-89 are of table CryptoPro-A.
 pub(crate) fn agrees(heap: Global, v: &Vector) -> Result<bool, Fault> {
+    let table = SubstitutionTable::new(TABLE_A)?;
     match v.group {
-        Group::KuznyechikKeys
-        | Group::KuznyechikBlock
-        | Group::KuznyechikCodebook
-        | Group::KuznyechikDeciphered
-        | Group::KuznyechikFeedback => kuznyechik_agrees(heap, v),
-        _ => gost_agrees(heap, v),
+        Group::RoundKey => round_key_agrees(v),
+        Group::Kuznyechik(work) => { work_agrees(heap, &Kuznyechik::new(&round_keys(v)?), work, v) }
+        Group::Gost(work) => work_agrees(heap, &Gost::new(&table, &key_words(v)?), work, v),
+        Group::Imitovstavka | Group::ImitovstavkaAtL => imitovstavka_agrees(&table, v),
     }
 }

@@ -6,6 +6,7 @@ use crate::fault::Fault;
 use std::alloc::Global;
 
 /// The number of a digit of hex.
+// Not by char::to_digit: that takes capitals too.
 fn digit(c: u8) -> Result<u8, Fault>
     ensures { IfOk result (λ n. n < 16) }
 {

@@ -11,7 +11,7 @@ mod vector;
 
 use ciphers::agrees;
 use files::read_or_empty;
-use group::Group;
+use group::{GROUPS, Group};
 use std::process::ExitCode;
 use vector::{Vector, read_vector};
 
@@ -25,9 +25,8 @@ struct Tally {
 /// Reads the vectors of a text, and reports the lines that are malformed; says how many.
 fn read_vectors(rt: &HostRuntime, text: &str, vectors: &mut Vec<Vector>) -> anyhow::Result<u32> {
     let mut malformed = 0u32;
-    let mut number = 0u32;
-    for line in text.lines() {
-        number = number.saturating_add(1);
+    for (number, line) in (1usize..).zip(text.lines()) {
+        let number = u32::try_from(number).unwrap_or(u32::MAX);
         if line.is_empty() || line.starts_with('#') {
             continue;
         }
@@ -45,12 +44,10 @@ fn read_vectors(rt: &HostRuntime, text: &str, vectors: &mut Vec<Vector>) -> anyh
 /// Runs the vectors of a group. One that cannot be run, for whatever reason, has not agreed.
 fn run_group(rt: &HostRuntime, group: Group, vectors: &[Vector]) -> Tally {
     let mut tally = Tally { agreed: 0, all: 0 };
-    for vector in vectors {
-        if vector.group == group {
-            tally.all = tally.all.saturating_add(1);
-            if let Ok(true) = agrees(rt.alloc(), vector) {
-                tally.agreed = tally.agreed.saturating_add(1);
-            }
+    for vector in vectors.iter().filter(|vector| vector.group == group) {
+        tally.all = tally.all.saturating_add(1);
+        if let Ok(true) = agrees(rt.alloc(), vector) {
+            tally.agreed = tally.agreed.saturating_add(1);
         }
     }
     tally
@@ -61,10 +58,8 @@ fn main(rt: HostRuntime) -> anyhow::Result<ExitCode> {
     let mut vectors = Vec::new(rt.alloc());
     let malformed = read_vectors(&rt, text.as_str(), &mut vectors)?;
     let mut all_agreed = malformed == 0;
-    for group in Group::ALL {
-        let tally = run_group(&rt, group, vectors.as_slice());
-        let name = group.name();
-        let Tally { agreed, all } = tally;
+    for (name, group) in GROUPS {
+        let Tally { agreed, all } = run_group(&rt, group, vectors.as_slice());
         println!(rt; "{name}: {agreed} of {all}")?;
         all_agreed = all_agreed && all > 0 && agreed == all;
     }

@@ -17,18 +17,12 @@ pub struct Vector {
 
 /// The vector of a line: group, key, sync, text and expected bytes, split by commas.
 pub(crate) fn read_vector(heap: Global, line: &str) -> Result<Vector, Fault> {
-    let mut words = Vec::new(heap);
-    for word in line.split(',') {
-        words.push(word)?;
-    }
+    let words: Vec<&str> = line.split(',').collect(heap)?;
     let [name, key, sync, text, expected] = words.as_slice() else {
         return Err(Fault::Malformed);
     };
-    let Some(group) = Group::named(name) else {
-        return Err(Fault::Malformed);
-    };
     Ok(Vector {
-        group,
+        group: name.parse()?,
         key: read_hex(heap, key)?,
         sync: read_hex(heap, sync)?,
         text: read_hex(heap, text)?,

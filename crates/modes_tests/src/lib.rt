@@ -41,29 +41,20 @@ mod tests {
         0x3b, 0x40, 0xb4, 0x43, 0x13, 0xf4,
     ];
 
-    fn refused(
+    fn refused<T: Drop>(
         rt: &impl Abort,
-        got: Result<usize, Refusal>,
+        got: Result<T, Refusal>,
         number: u8,
         place: u32,
         layer: u8,
     ) -> Result<(), Fail> {
-        match got {
-            Ok(_) => Err(Fail::new("accepted")),
-            Err(why) => {
-                assert_eq!(rt; why.reason.number(), number);
-                assert_eq!(rt; why.place, place);
-                assert_eq!(rt; why.layer.number(), layer);
-                Ok(())
-            }
-        }
-    }
-
-    fn text_refused(rt: &impl Abort, got: Result<(), Refusal>, number: u8) -> Result<(), Fail> {
-        match got {
-            Ok(()) => Err(Fail::new("accepted")),
-            Err(why) => refused(rt, Err(why), number, 0, 2),
-        }
+        let Err(why) = got else {
+            return Err(Fail::new("accepted"));
+        };
+        assert_eq!(rt; why.reason.number(), number);
+        assert_eq!(rt; why.place, place);
+        assert_eq!(rt; why.layer.number(), layer);
+        Ok(())
     }
 
     // Enciphers the plain text, compares, and deciphers each of its three blocks.
@@ -106,26 +97,16 @@ mod tests {
         let words = [0; 8];
         let cipher = Gost::new(&table, &words);
         let mut text = PLAIN;
-        text_refused(
-            &rt,
-            encipher_text(&cipher, Mode::Codebook, SYNC, &mut text),
-            5,
-        )?;
-        text_refused(
-            &rt,
-            encipher_text(&cipher, Mode::Counter, None, &mut text),
-            5,
-        )?;
-        text_refused(
-            &rt,
-            encipher_text(&cipher, Mode::Feedback, None, &mut text),
-            5,
-        )?;
-        text_refused(
-            &rt,
-            encipher_text(&cipher, Mode::Codebook, None, &mut text),
-            6,
-        )?;
+        let cases = [
+            (Mode::Codebook, SYNC, 5),
+            (Mode::Counter, None, 5),
+            (Mode::Feedback, None, 5),
+            (Mode::Codebook, None, 6),
+        ];
+        for (mode, sync, number) in cases {
+            let got = encipher_text(&cipher, mode, sync, &mut text);
+            refused(&rt, got, number, 0, 2)?;
+        }
         assert_eq!(rt; text, PLAIN, "a refusal leaves the text");
         Ok(())
     }
@@ -135,11 +116,8 @@ mod tests {
         let keys = [[0; 16]; 10];
         let cipher = Kuznyechik::new(&keys);
         let mut text = PLAIN;
-        text_refused(
-            &rt,
-            encipher_text(&cipher, Mode::Counter, SYNC, &mut text),
-            5,
-        )?;
+        let got = encipher_text(&cipher, Mode::Counter, SYNC, &mut text);
+        refused(&rt, got, 5, 0, 2)?;
         encipher_text(&cipher, Mode::Feedback, SYNC, &mut text)?;
         assert_ne!(rt; text, PLAIN);
         let mut out = [0; 16];

@@ -195,10 +195,7 @@ pub(crate) fn say_fault(rt: &HostRuntime, script: &str, fault: &Fault) -> io::Re
             println!(rt; "{file} cannot be read: {why}")
         }
         Fault::NoText => println!(rt; "{script} is not a text in UTF-8"),
-        Fault::Line { line, why } => {
-            let why = why.text();
-            println!(rt; "{script} line {line}: {why}")
-        }
+        Fault::Line { line, why } => println!(rt; "{script} line {line}: {why}"),
         Fault::Refused { file, refusal } => {
             let file = file.name(script);
             let meaning = Meaning { refusal: *refusal };

@@ -1,6 +1,7 @@
 //! Why a script cannot be used.
 
-use std::alloc::AllocFailed;
+use std::alloc::{AllocError, AllocFailed};
+use std::fmt;
 
 /// What is wrong with a line of the script.
 #[derive(Clone, Copy, PartialEq, Eq, Debug)]
@@ -21,10 +22,10 @@ pub enum LineFault {
     NoSuchByte,
 }
 
-impl LineFault {
-    /// What is wrong, for a person.
-    pub fn text(self) -> &'static str {
-        match self {
+/// What is wrong, for a person.
+impl fmt::Display for LineFault {
+    fn fmt<W: fmt::Write>(&self, f: &mut fmt::Formatter<W>) -> fmt::Result {
+        f.write_str(match self {
             LineFault::UnknownWord => {
                 "the first word is section, frame, drop, repeat, give, erase, program, close, reopen or verify"
             }
@@ -42,7 +43,7 @@ impl LineFault {
             LineFault::Number => "a number is written in decimal digits, 0 to 4294967295",
             LineFault::Bit => "a bit is 0 to 7",
             LineFault::NoSuchByte => "the frame has no such byte to flip",
-        }
+        })
     }
 }
 
@@ -52,6 +53,12 @@ pub enum ScriptFault {
     /// A line is malformed.
     Line { line: u32, why: LineFault },
     Memory,
+}
+
+impl From<AllocError> for ScriptFault {
+    fn from(_why: AllocError) -> ScriptFault {
+        ScriptFault::Memory
+    }
 }
 
 impl<T: Drop> From<AllocFailed<T>> for ScriptFault {

@@ -2,17 +2,14 @@
 
 use crate::fault::{LineFault, ScriptFault};
 use crate::order::{Flip, FrameLine, Order, Script, Step};
-use std::alloc::Global;
+use std::alloc::{AllocError, Global};
 
 /// The number that a word writes in decimal digits.
 fn number(word: &str) -> Result<u32, LineFault> {
     if word.starts_with('+') {
         return Err(LineFault::Number);
     }
-    match word.parse::<u32>() {
-        Ok(n) => Ok(n),
-        Err(_) => Err(LineFault::Number),
-    }
+    word.parse().map_err(|_| LineFault::Number)
 }
 
 /// The number of the only word there is.
@@ -26,10 +23,7 @@ fn only_number(words: &[&str], otherwise: LineFault) -> Result<u32, LineFault> {
 /// The image page of the only word there is.
 fn image_page(words: &[&str]) -> Result<u16, LineFault> {
     let page = only_number(words, LineFault::Program)?;
-    match u16::try_from(page) {
-        Ok(page) => Ok(page),
-        Err(_) => Err(LineFault::Program),
-    }
+    u16::try_from(page).map_err(|_| LineFault::Program)
 }
 
 /// A first block and a count of blocks.
@@ -57,10 +51,12 @@ fn read_flip(byte: &str, bit: &str) -> Result<Flip, LineFault> {
 fn read_frame(words: &[&str]) -> Result<FrameLine, LineFault> {
     match words {
         [first, count] => blocks(first, count),
-        [first, count, word, byte, bit] if *word == "flip" => {
-            let mut frame = blocks(first, count)?;
-            frame.flip = Some(read_flip(byte, bit)?);
-            Ok(frame)
+        [first, count, "flip", byte, bit] => {
+            let frame = blocks(first, count)?;
+            Ok(FrameLine {
+                flip: Some(read_flip(byte, bit)?),
+                ..frame
+            })
         }
         _ => Err(LineFault::Frame),
     }
@@ -83,15 +79,21 @@ fn alone(words: &[&str], order: Order) -> Result<Order, LineFault> {
     }
 }
 
-/// Reads an order, after the last frame that was sent or lost.
-fn read_order(name: &str, words: &[&str], last: Option<FrameLine>) -> Result<Order, LineFault> {
+/// The last frame that was sent or lost.
+fn last_frame(steps: &[Step]) -> Result<FrameLine, LineFault> {
+    steps
+        .iter()
+        .rev()
+        .find_map(|step| step.order.frame())
+        .ok_or(LineFault::NothingToRepeat)
+}
+
+/// Reads an order that stands after the steps.
+fn read_order(name: &str, words: &[&str], steps: &[Step]) -> Result<Order, LineFault> {
     match name {
         "frame" => Ok(Order::Frame(read_frame(words)?)),
         "drop" => Ok(Order::Lost(read_lost(words)?)),
-        "repeat" => match last {
-            Some(frame) => alone(words, Order::Repeat(frame)),
-            None => Err(LineFault::NothingToRepeat),
-        },
+        "repeat" => alone(words, Order::Repeat(last_frame(steps)?)),
         "give" => Ok(Order::Give {
             block: only_number(words, LineFault::Give)?,
         }),
@@ -109,66 +111,33 @@ fn read_order(name: &str, words: &[&str], last: Option<FrameLine>) -> Result<Ord
     }
 }
 
-/// A script as far as it was read.
-#[derive(Drop)]
-struct Draft {
-    section: Option<u32>,
-    last: Option<FrameLine>,
-    steps: Vec<Step>,
-}
-
-/// Reads the words of a line into a draft.
-fn read_line(draft: &mut Draft, line: u32, words: &[&str]) -> Result<(), ScriptFault> {
-    let Some((name, rest)) = words.split_first() else {
-        return Ok(());
-    };
-    if *name == "section" && draft.section.is_none() && draft.steps.is_empty() {
-        match only_number(rest, LineFault::Section) {
-            Ok(section) => draft.section = Some(section),
-            Err(why) => return Err(ScriptFault::Line { line, why }),
-        }
-        return Ok(());
-    }
-    match read_order(name, rest, draft.last) {
-        Ok(order) => {
-            if let Some(frame) = order.frame() {
-                draft.last = Some(frame);
-            }
-            draft.steps.push(Step { line, order })?;
-            Ok(())
-        }
-        Err(why) => Err(ScriptFault::Line { line, why }),
-    }
-}
-
 /// The words of a line before its comment.
-fn words_of<'a>(heap: Global, line: &'a str) -> Result<Vec<&'a str>, ScriptFault> {
-    let text = match line.split_once('#') {
-        Some((text, _)) => text,
-        None => line,
-    };
-    let mut words = Vec::new(heap);
-    for word in text.split_whitespace() {
-        words.push(word)?;
-    }
-    Ok(words)
+fn words_of<'a>(heap: Global, line: &'a str) -> Result<Vec<&'a str>, AllocError> {
+    let text = line.split_once('#').map_or(line, |(text, _)| text);
+    text.split_whitespace().collect(heap)
 }
 
 /// Reads a script. The first malformed line is named.
 pub fn read_script(heap: Global, text: &str) -> Result<Script, ScriptFault> {
-    let mut draft = Draft {
-        section: None,
-        last: None,
-        steps: Vec::new(heap),
-    };
-    let mut line = 0u32;
-    for text in text.lines() {
-        line = line.saturating_add(1);
+    let mut section = None;
+    let mut steps = Vec::new(heap);
+    for (line, text) in (1usize..).zip(text.lines()) {
+        let line = u32::try_from(line).unwrap_or(u32::MAX);
+        let at_line = |why| ScriptFault::Line { line, why };
         let words = words_of(heap, text)?;
-        read_line(&mut draft, line, words.as_slice())?;
+        match words.as_slice() {
+            [] => {}
+            ["section", rest @ ..] if section.is_none() && steps.is_empty() => {
+                section = Some(only_number(rest, LineFault::Section).map_err(at_line)?);
+            }
+            [name, rest @ ..] => {
+                let order = read_order(name, rest, steps.as_slice()).map_err(at_line)?;
+                steps.push(Step { line, order })?;
+            }
+        }
     }
     Ok(Script {
-        section: draft.section.unwrap_or(1),
-        steps: draft.steps,
+        section: section.unwrap_or(1),
+        steps,
     })
 }

@@ -5,15 +5,10 @@ use std::fmt;
 
 impl fmt::Display for FrameLine {
     fn fmt<W: fmt::Write>(&self, f: &mut fmt::Formatter<W>) -> fmt::Result {
-        let first = self.first;
-        let count = self.count;
-        match self.flip {
+        let FrameLine { first, count, flip } = self;
+        match flip {
             None => write!(f, "{first} {count}"),
-            Some(flip) => {
-                let byte = flip.byte;
-                let bit = flip.bit;
-                write!(f, "{first} {count} flip {byte} {bit}")
-            }
+            Some(flip) => write!(f, "{first} {count} flip {} {}", flip.byte, flip.bit),
         }
     }
 }

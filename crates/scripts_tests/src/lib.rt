@@ -29,44 +29,26 @@ mod tests {
 
     #[test]
     fn faults(rt: HostRuntime) -> Result<(), Fail> {
-        let texts = [
-            "# c\n\nFrame 0 1",
-            "close\n\nsection 1",
-            "section 1\n\nsection 1",
-            "# c\n\nsection 1 2",
-            "# c\n\nsection 4294967296",
-            "# c\n\nframe 0",
-            "# c\n\nframe 0 1 flop 0 1",
-            "# c\n\nframe 0 1 flip 0 8",
-            "# c\n\nframe 0 -1",
-            "# c\n\nframe +1 1",
-            "# c\n\ndrop 0 1 flip 0 1",
-            "section 1\n\nrepeat",
-            "# c\n\ngive",
-            "# c\n\nerase 1 2",
-            "# c\n\nprogram 65536",
-            "# c\n\nverify 1",
+        let cases = [
+            ("# c\n\nFrame 0 1", LineFault::UnknownWord),
+            ("close\n\nsection 1", LineFault::LateSection),
+            ("section 1\n\nsection 1", LineFault::LateSection),
+            ("# c\n\nsection 1 2", LineFault::Section),
+            ("# c\n\nsection 4294967296", LineFault::Number),
+            ("# c\n\nframe 0", LineFault::Frame),
+            ("# c\n\nframe 0 1 flop 0 1", LineFault::Frame),
+            ("# c\n\nframe 0 1 flip 0 8", LineFault::Bit),
+            ("# c\n\nframe 0 -1", LineFault::Number),
+            ("# c\n\nframe +1 1", LineFault::Number),
+            ("# c\n\ndrop 0 1 flip 0 1", LineFault::Lost),
+            ("section 1\n\nrepeat", LineFault::NothingToRepeat),
+            ("# c\n\ngive", LineFault::Give),
+            ("# c\n\nerase 1 2", LineFault::Erase),
+            ("# c\n\nprogram 65536", LineFault::Program),
+            ("# c\n\nverify 1", LineFault::Alone),
         ];
-        let expected = [
-            LineFault::UnknownWord,
-            LineFault::LateSection,
-            LineFault::LateSection,
-            LineFault::Section,
-            LineFault::Number,
-            LineFault::Frame,
-            LineFault::Frame,
-            LineFault::Bit,
-            LineFault::Number,
-            LineFault::Number,
-            LineFault::Lost,
-            LineFault::NothingToRepeat,
-            LineFault::Give,
-            LineFault::Erase,
-            LineFault::Program,
-            LineFault::Alone,
-        ];
-        for i in 0..16usize {
-            fault_at_3(&rt, rt.alloc(), texts[i], expected[i])?;
+        for (text, expected) in cases {
+            fault_at_3(&rt, rt.alloc(), text, expected)?;
         }
         Ok(())
     }
