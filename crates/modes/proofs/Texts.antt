@@ -21,11 +21,6 @@ Padded Codebook c sync image i pad = Unit {0}
 Padded Counter c sync image i pad = Unit {0}
 Padded Feedback c sync image i pad = pad ≡ before sync (fed c sync image) i
 
-pub padded_first : (mode : Mode) (c : BlockMap) (sync image pad : List ℕ) → (mode ≡ Feedback → pad ≡ sync) → Padded mode c sync image 0 pad
-padded_first Codebook c sync image pad h = tt
-padded_first Counter c sync image pad h = tt
-padded_first Feedback c sync image pad h = h refl
-
 -- a step of the code gives the cipher block
 pub step_is : (mode : Mode) (c : BlockMap) (sync image pad : List ℕ) (y z i : ℕ) → FromSync mode (c.enciphered sync) y z → Padded mode c sync image i pad →
     cipher_step mode c y z i pad (block c.size i image) ≡ cipher_by mode c sync image i
@@ -74,9 +69,6 @@ module _ (w : Chaining) (image : List ℕ) (bytes : Bytes image) (s : Sound w (l
 -- what the loop holds before block i: xs is the text so far, and the pad is ready for the block, if there is one
 abbrev pub Held : Chaining → List ℕ → ℕ → List ℕ → List ℕ → Type 0
 Held w image i xs pad = (xs ≡ joined (cipher_block w image) 0 i ++ drop (size w * i) image) × (size w * i < length image → Padded w.mode w.cipher w.sync image i pad)
-
-pub held_first : (w : Chaining) (image pad : List ℕ) → pad ≡ w.sync → Held w image 0 image pad
-held_first w image pad e = (sym (ap (λ (k : ℕ). drop k image) (mul-zero (size w))), λ l. padded_first w.mode w.cipher w.sync image pad (λ q. e))
 
 -- a turn of the loop: block i of the text, k bytes from `at` on, is enciphered
 module _ (w : Chaining) (image : List ℕ) (bytes : Bytes image) (s : Sound w (length image)) (i y z : ℕ) (xs pad : List ℕ)

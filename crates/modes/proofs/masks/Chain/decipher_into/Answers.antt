@@ -1,7 +1,6 @@
 use Rattle.std.proofs.Common.{◌≡◌, ℕ, length, sym, ap, ◌∙◌}
 use Rattle.blocks.specs.Bytes.{block}
 use Rattle.modes.specs.Calls.{sync_bytes}
-use Rattle.modes.specs.Steps.{plain_step}
 use Rattle.modes.proofs.Plain.{plain_step_lem, cut_is}
 use Rattle.modes.proofs.masks.Chain.decipher_into.Goals as goal
 
@@ -18,6 +17,5 @@ returns g c =
     let long : length c.args.part.now ≡ length (block n i body) = c.requires.part ∙ ap (λ (m : ℕ). length (block m i body)) (sym size) in
     let part : c.copy_from_slice.new.self ≡ block map.size i body
     = c.copy_from_slice.ensures.after ∙ (cut_is n i (length c.args.part.now) body long ∙ ap (λ (m : ℕ). block m i body) size) in
-    c.decipher.ensures
-    ∙ (ap (plain_step s.mode map y z i c.feed.new.pad) part
-    ∙ plain_step_lem s.mode map (sync_bytes map.size s.sync) c.feed.new.pad (λ k. block map.size k body) y z i s.counted (λ q. c.feed.ensures))
+    rw (c.decipher.ensures, part)
+    (plain_step_lem s.mode map (sync_bytes map.size s.sync) c.feed.new.pad (λ k. block map.size k body) y z i s.counted (λ q. c.feed.ensures))
