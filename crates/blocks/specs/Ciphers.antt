@@ -1,7 +1,8 @@
 -- What a block cipher means: a block length and a one-to-one map of blocks with its inverse.
 use Rattle.std.specs.Prelude.{◌≡◌, ℕ, cond, ◌⊎◌, List, length, Ok, Err, Result, ◌==◌}
 use Rattle.refusals.specs.declared.Reason.TheVariants.{WrongBuffer}
-use Rattle.refusals.specs.declared.Layer.TheVariants.{Download}
+use Rattle.refusals.specs.declared.Layer.{Layer}
+use Rattle.refusals.specs.declared.Layer.TheVariants.{File, Download}
 use Rattle.refusals.specs.Codes.{Code, refuse}
 use Rattle.blocks.specs.Bytes.{Block}
 
@@ -28,9 +29,17 @@ pub record Lawful (c : BlockMap) : Type 0 where
   pub forward : OneToOne c.size c.enciphered
   pub inverse : Undone c.size c.enciphered c.deciphered
 
--- a part of another length than n is refused
+-- bytes of another length than n are refused
+abbrev pub length_judged : ℕ → Layer → List ℕ → Result Unit Code
+length_judged n layer bytes = cond (length bytes == n) (Ok tt) (Err (refuse WrongBuffer 0 layer))
+
+-- a key of another length than 32 bytes
+abbrev pub key_answer : List ℕ → Result Unit Code
+key_answer key = length_judged 32 File key
+
+-- a part of another length than n
 abbrev pub length_answer : ℕ → List ℕ → Result Unit Code
-length_answer n part = cond (length part == n) (Ok tt) (Err (refuse WrongBuffer 0 Download))
+length_answer n part = length_judged n Download part
 
 -- and left as it was; a part of n bytes is replaced by its image under the map
 abbrev pub replaced : ℕ → (List ℕ → List ℕ) → List ℕ → List ℕ

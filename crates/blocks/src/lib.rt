@@ -10,12 +10,12 @@
 
 #![tactic(auto)]
 
-ghost use Rattle.std.specs.Prelude.{◌≡◌, length};
+ghost use Rattle.std.specs.Prelude.{◌≡◌, length, IfOk};
 ghost use Rattle.refusals.specs.Codes.{outcome};
 ghost use Rattle.blocks.specs.Bytes.{Bytes, xored};
-ghost use Rattle.blocks.specs.Ciphers.{BlockMap, Lawful, length_answer, replaced};
+ghost use Rattle.blocks.specs.Ciphers.{BlockMap, Lawful, length_answer, length_judged, replaced};
 
-use refusals::Refusal;
+use refusals::{Layer, Reason, Refusal};
 
 /// A block cipher with its key.
 pub trait BlockCipher {
@@ -37,10 +37,24 @@ pub trait BlockCipher {
         ensures block { block.new ≡ replaced (map self.now).size (map self.now).deciphered block.old };
 }
 
+/// Sees that there are `n` bytes; the layer refuses another length. With it comes that each of them is
+/// below 256.
+pub fn judge_length(n: usize, layer: Layer, bytes: &[u8]) -> Result<(), Refusal>
+    ensures answer { outcome result ≡ length_judged n layer bytes.now }
+    ensures sized { IfOk result (λ _. length bytes.now ≡ n) }
+    ensures bytes { Bytes bytes.now }
+{
+    if bytes.len() != n {
+        return Err(Refusal::new(Reason::WrongBuffer, 0, layer));
+    }
+    Ok(())
+}
+
 /// Xors `with` into the front of `block`, byte by byte, as far as both go.
 pub fn xor_into(block: &mut [u8], with: &[u8])
     ensures { block.new ≡ xored block.old with.now }
 {
+    // By index: after a loop over `iter_mut().zip(..)` a proof knows no element.
     for i in 0..block.len().min(with.len()) {
         block[i] ^= with[i];
     }
@@ -51,8 +65,5 @@ pub fn byte_count(bytes: &[u8]) -> usize
     ensures value { result ≡ length bytes.now }
     ensures bytes { Bytes bytes.now }
 {
-    if bytes.is_empty() {
-        return 0;
-    }
     bytes.len()
 }

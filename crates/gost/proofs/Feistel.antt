@@ -1,7 +1,8 @@
 -- Laws of the rounds: a round undone by the same round at the registers swapped.
-use Rattle.std.proofs.Common.{◌≡◌, ℕ, ◌+◌, ◌<◌, List, [], ◌∷◌, ◌++◌, reverse, length, get_or, take, sym, refl, ap, ◌∙◌, arith}
+use Rattle.std.proofs.Common.{◌≡◌, ℕ, ◌<◌, List, [], ◌∷◌, ◌++◌, reverse, length, sym, refl, ap, ◌∙◌, arith}
 use lib.Bits.{bit_xor, xor_assoc, xor_self, xor_zero_l}
-use Rattle.std.proofs.lemmas.List.{append_assoc, length-append, length-reverse, reverse-append, reverse-reverse, take_more}
+use Rattle.std.proofs.lemmas.List.{append_assoc, length-append, length-reverse, reverse-append, reverse-reverse}
+use Rattle.std.proofs.lemmas.List.Sums.{fold-append}
 use Rattle.gost.specs.declared.rounds.Registers.{Registers}
 use Rattle.gost.specs.Tables.{Rows}
 use Rattle.gost.specs.Rounds.{mixed, round, last_round, swapped, rounds, closed_rounds, forward, backward}
@@ -17,9 +18,8 @@ module _ (rows : Rows) where
       let with : ℕ → Registers = λ n. record { n1 = n; n2 = s.n1 } in
       ap with (xor_gone (mixed rows x s.n1) s.n2)
 
-  pub rounds-append : (xs ys : List ℕ) (s : Registers) → rounds rows (xs ++ ys) s ≡ rounds rows ys (rounds rows xs s)
-  rounds-append [] ys s = refl
-  rounds-append (x ∷ xs) ys s = rounds-append xs ys (round rows x s)
+  rounds-append : (xs ys : List ℕ) (s : Registers) → rounds rows (xs ++ ys) s ≡ rounds rows ys (rounds rows xs s)
+  rounds-append xs ys s = fold-append (λ (r : Registers) (x : ℕ). round rows x r) s xs ys
 
   rounds_back : (xs : List ℕ) (s : Registers) → rounds rows (reverse xs) (swapped (rounds rows xs s)) ≡ swapped s
   rounds_back [] s = refl
@@ -54,26 +54,12 @@ backward_is key = simp (reverse-append, reverse-reverse, append_assoc)
 pub forward_is : (key : List ℕ) → forward key ≡ reverse (backward key)
 forward_is key = sym (ap reverse (backward_is key) ∙ reverse-reverse (forward key))
 
--- one more word at the front of a reversed part
-pub reversed_more : (xs : List ℕ) (i : ℕ) → i < length xs → reverse (take (i + 1) xs) ≡ get_or xs i 0 ∷ reverse (take i xs)
-reversed_more xs i h = ap reverse (take_more xs i 0 h) ∙ reverse-append (take i xs) (get_or xs i 0 ∷ [])
+-- the 32 rounds, eight words at a time
+module _ (rows : Rows) (key : List ℕ) (s : Registers) (some : 0 < length key) where
+  pub forward_closed : closed_rounds rows (forward key) s ≡ swapped (rounds rows (reverse key) (rounds rows key (rounds rows key (rounds rows key s))))
+  unfolding forward
+  forward_closed = closed_some rows (forward key) (omega (arith, length-append key (key ++ (key ++ reverse key)))) s ∙ ap swapped (simp rounds-append)
 
--- eight words at a time
-pub forward-rounds : (rows : Rows) (key : List ℕ) (s : Registers) →
-    rounds rows (forward key) s ≡ rounds rows (reverse key) (rounds rows key (rounds rows key (rounds rows key s)))
-unfolding forward
-forward-rounds rows key s = simp rounds-append
-
-pub backward-rounds : (rows : Rows) (key : List ℕ) (s : Registers) →
-    rounds rows (backward key) s ≡ rounds rows (reverse key) (rounds rows (reverse key) (rounds rows (reverse key) (rounds rows key s)))
-unfolding backward
-backward-rounds rows key s = simp rounds-append
-
--- a key has words
-pub forward_some : (key : List ℕ) → 0 < length key → 0 < length (forward key)
-unfolding forward
-forward_some key h = omega (arith, length-append key (key ++ (key ++ reverse key)))
-
-pub backward_some : (key : List ℕ) → 0 < length key → 0 < length (backward key)
-unfolding backward
-backward_some key h = omega (arith, length-append key (reverse key ++ (reverse key ++ reverse key)))
+  pub backward_closed : closed_rounds rows (backward key) s ≡ swapped (rounds rows (reverse key) (rounds rows (reverse key) (rounds rows (reverse key) (rounds rows key s))))
+  unfolding backward
+  backward_closed = closed_some rows (backward key) (omega (arith, length-append key (reverse key ++ (reverse key ++ reverse key)))) s ∙ ap swapped (simp rounds-append)

@@ -1,43 +1,45 @@
 -- Substitution nibble by nibble, from the highest row down.
-use Rattle.std.proofs.Common.{◌≡◌, ℕ, suc, ◌+◌, ◌-◌, ◌*◌, ◌/◌, ◌%◌, ◌^◌, ◌<◌, ◌≤◌, true, [], ◌∷◌, length, get_or, drop, sym, ap, ◌∙◌, lt_of_lt_of_le, arith, pow_mono, pow-add}
+use Rattle.std.proofs.Common.{◌≡◌, ℕ, zero, suc, ◌+◌, ◌*◌, ◌/◌, ◌%◌, ◌^◌, ◌<◌, ◌≤◌, true, [], ◌∷◌, length, get_or, take, sym, ap, ◌∙◌, add-one, arith, pow-add}
 use lib.Bits.{bit_and, bit_or}
-use Rattle.std.proofs.lemmas.List.{drop_more}
-use Rattle.std.proofs.lemmas.Nat.{shr-shr, shl_whole, or_shifted, shr_below, and_mask}
+use Rattle.std.proofs.Math.Nat.{mul-le-mul_left}
+use Rattle.std.proofs.lemmas.Nat.{shr-shr, shl_whole, or_comm, or_shifted, shr_below, and_mask}
 use Rattle.gost.specs.Tables.{Rows, narrow_rows, substituted}
 use Rattle.gost.specs.Rounds.{rotated}
 use Rattle.gost.proofs.Narrow.{row_narrow, rows_narrow, first_row, next_rows}
 
-substituted-step : (rows : Rows) (x i : ℕ) → i < length rows →
-    substituted (drop i rows) (x / 2 ^ (4 * i))
-    ≡ get_or (get_or rows i []) (x / 2 ^ (4 * i) % 16) 0 + 16 * substituted (drop (i + 1) rows) (x / 2 ^ (4 * (i + 1)))
-substituted-step rows x i h =
-    let e : x / 2 ^ (4 * i) / 2 ^ 4 ≡ x / 2 ^ (4 * i + 4) = shr-shr x (4 * i) 4 in
-    let f : 4 * i + 4 ≡ 4 * (i + 1) = omega arith in
-    rw (drop_more rows i [] h, ← f, ← e)
+-- one row more: the nibble at its place
+substituted_more : (rows : Rows) (x i : ℕ) → i < length rows →
+    substituted (take (suc i) rows) x ≡ substituted (take i rows) x + get_or (get_or rows i []) (x / 2 ^ (4 * i) % 16) 0 * 2 ^ (4 * i)
+substituted_more [] x i h = absurd (omega arith)
+substituted_more (row ∷ rows) x zero h = let whole : x / 2 ^ 0 ≡ x = omega arith in rw whole (omega arith)
+substituted_more (row ∷ rows) x (suc i) h =
+    let low = get_or row (x % 16) 0 in
+    let part = substituted (take i rows) (x / 16) in
+    let f : 4 + 4 * i ≡ 4 * suc i = omega arith in
+    let place : x / 16 / 2 ^ (4 * i) ≡ x / 2 ^ (4 * suc i) = shr-shr x 4 (4 * i) ∙ ap (λ (n : ℕ). x / 2 ^ n) f in
+    let e = get_or (get_or rows i []) (x / 2 ^ (4 * suc i) % 16) 0 in
+    let above : substituted (take (suc i) rows) (x / 16) ≡ part + e * 2 ^ (4 * i)
+    = substituted_more rows (x / 16) i (omega arith) ∙ ap (λ (n : ℕ). part + get_or (get_or rows i []) (n % 16) 0 * 2 ^ (4 * i)) place in
+    let g : 2 ^ (4 * suc i) ≡ 2 ^ (4 * i) * 16 = ap (λ (n : ℕ). 2 ^ n) (sym f) ∙ (pow-add 2 4 (4 * i) ∙ omega arith) in
+    let out : low + 16 * (part + e * 2 ^ (4 * i)) ≡ low + 16 * part + e * (2 ^ (4 * i) * 16) = omega arith in
+    ap (λ (n : ℕ). low + 16 * n) above ∙ (out ∙ ap (λ (n : ℕ). low + 16 * part + e * n) (sym g))
 
-shifted_in : (y e : ℕ) → y < 2 ^ 28 → e < 16 → bit_or ((y * 2 ^ 4) % 2 ^ 32) e ≡ e + 16 * y
-shifted_in y e h k =
-    let w : (y * 2 ^ 4) % 2 ^ 32 ≡ y * 2 ^ 4 = shl_whole y 28 4 32 h (omega arith) in
-    let o : bit_or (y * 2 ^ 4) e ≡ y * 2 ^ 4 + e = or_shifted y 4 e k in
-    rw w (o ∙ omega arith)
-
--- y is made from the rows above j: one turn of the loop takes in row j
-pub row_more : (rows : Rows) (x y e j : ℕ) → narrow_rows rows ≡ true → j < 8 → length rows ≡ 8 →
-    (y ≡ substituted (drop (j + 1) rows) (x / 2 ^ (4 * (j + 1)))) × (y < 2 ^ (4 * (8 - (j + 1)))) →
-    e ≡ get_or (get_or rows j []) (bit_and (x / 2 ^ (4 * j)) 15) 0 →
-    (bit_or ((y * 2 ^ 4) % 2 ^ 32) e ≡ substituted (drop j rows) (x / 2 ^ (4 * j))) × (bit_or ((y * 2 ^ 4) % 2 ^ 32) e < 2 ^ (4 * (8 - j)))
-row_more rows x y e j narrow h l inv at =
-    let m : bit_and (x / 2 ^ (4 * j)) 15 ≡ x / 2 ^ (4 * j) % 16 = and_mask (x / 2 ^ (4 * j)) 4 in
-    let at' : e ≡ get_or (get_or rows j []) (x / 2 ^ (4 * j) % 16) 0 = at ∙ ap (λ (n : ℕ). get_or (get_or rows j []) n 0) m in
-    let small : e < 16 = rw at' (rows_narrow rows j (x / 2 ^ (4 * j) % 16) narrow) in
-    let le : 4 * (8 - (j + 1)) ≤ 28 = omega arith in
-    let p : y < 2 ^ 28 = lt_of_lt_of_le inv.1 (pow_mono le) in
-    let s : bit_or ((y * 2 ^ 4) % 2 ^ 32) e ≡ e + 16 * y = shifted_in y e p small in
-    let jl : j < length rows = omega arith in
-    let f : 4 * (8 - j) ≡ 4 * (8 - (j + 1)) + 4 = omega arith in
-    let g : 2 ^ (4 * (8 - j)) ≡ 2 ^ (4 * (8 - (j + 1))) * 2 ^ 4 = ap (λ (n : ℕ). 2 ^ n) f ∙ pow-add 2 (4 * (8 - (j + 1))) 4 in
-    let b : y < 2 ^ (4 * (8 - (j + 1))) = inv.1 in (
-      s ∙ (ap (λ (n : ℕ). n + 16 * y) at' ∙ (ap (λ (n : ℕ). get_or (get_or rows j []) (x / 2 ^ (4 * j) % 16) 0 + 16 * n) inv.0 ∙ sym (substituted-step rows x j jl))),
+-- y is made from the rows below i: one turn of the loop puts the nibble of row i above it
+pub row_more : (rows : Rows) (x y e i : ℕ) → narrow_rows rows ≡ true → i < 8 → length rows ≡ 8 →
+    (y ≡ substituted (take i rows) x) × (y < 2 ^ (4 * i)) →
+    e ≡ get_or (get_or rows i []) (bit_and (x / 2 ^ (4 * i)) 15) 0 →
+    (bit_or y ((e * 2 ^ (4 * i)) % 2 ^ 32) ≡ substituted (take (i + 1) rows) x) × (bit_or y ((e * 2 ^ (4 * i)) % 2 ^ 32) < 2 ^ (4 * (i + 1)))
+row_more rows x y e i narrow h l inv at =
+    let m : bit_and (x / 2 ^ (4 * i)) 15 ≡ x / 2 ^ (4 * i) % 16 = and_mask (x / 2 ^ (4 * i)) 4 in
+    let at' : e ≡ get_or (get_or rows i []) (x / 2 ^ (4 * i) % 16) 0 = at ∙ ap (λ (n : ℕ). get_or (get_or rows i []) n 0) m in
+    let small : e < 16 = rw at' (rows_narrow rows i (x / 2 ^ (4 * i) % 16) narrow) in
+    let w : (e * 2 ^ (4 * i)) % 2 ^ 32 ≡ e * 2 ^ (4 * i) = shl_whole e 4 (4 * i) 32 small (omega arith) in
+    let s : bit_or y ((e * 2 ^ (4 * i)) % 2 ^ 32) ≡ e * 2 ^ (4 * i) + y = ap (bit_or y) w ∙ (or_comm y (e * 2 ^ (4 * i)) ∙ or_shifted e (4 * i) y inv.1) in
+    let more = substituted_more rows x i (omega arith) in
+    let g : 2 ^ (4 * (i + 1)) ≡ 2 ^ (4 * i) * 2 ^ 4 = ap (λ (n : ℕ). 2 ^ n) (omega arith) ∙ pow-add 2 (4 * i) 4 in
+    let most : 2 ^ (4 * i) * e ≤ 2 ^ (4 * i) * 15 = mul-le-mul_left (2 ^ (4 * i)) (omega arith) in
+    let below : y < 2 ^ (4 * i) = inv.1 in (
+      s ∙ (ap (λ (n : ℕ). n * 2 ^ (4 * i) + y) at' ∙ rw add-one (omega (arith, more, inv.0))),
       rw (s, g) (omega arith),
     )
 

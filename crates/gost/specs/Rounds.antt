@@ -1,5 +1,6 @@
 -- The rounds of GOST 28147-89 on the registers N1 and N2, for any table and any key words.
 use Rattle.std.specs.Prelude.{ℕ, ◌+◌, ◌*◌, ◌/◌, ◌%◌, ◌^◌, List, [], ◌∷◌, ◌++◌, reverse, bit_xor}
+use Rattle.std.specs.List.{fold}
 use Rattle.gost.specs.declared.rounds.Registers.{Registers}
 use Rattle.gost.specs.Tables.{Rows, substituted}
 
@@ -24,8 +25,7 @@ swapped s = record { n1 = s.n2; n2 = s.n1 }
 
 -- ordinary rounds, one for each word
 abbrev pub rounds : Rows → List ℕ → Registers → Registers
-rounds rows [] s = s
-rounds rows (x ∷ xs) s = rounds rows xs (round rows x s)
+rounds rows words s = fold (λ r x. round rows x r) s words
 
 -- the same, but for the last word's round, which is the last
 abbrev pub closed_rounds : Rows → List ℕ → Registers → Registers

@@ -10,6 +10,7 @@
 #![tactic(auto)]
 
 pub mod cipher;
+mod enciphering;
 pub mod key;
 mod rounds;
 mod substitution;

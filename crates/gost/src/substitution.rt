@@ -12,24 +12,14 @@ use refusals::{Layer, Reason, Refusal};
 fn is_narrow_row(row: &[u8; 16]) -> bool
     ensures { result ≡ narrow_row row.now }
 {
-    for x in row {
-        if *x > 15 {
-            return false;
-        }
-    }
-    true
+    row.iter().all(|x| *x < 16)
 }
 
 /// Whether every number of the table is from 0 to 15.
 fn is_narrow(rows: &[[u8; 16]; 8]) -> bool
     ensures { result ≡ narrow_rows rows.now }
 {
-    for row in rows {
-        if !is_narrow_row(row) {
-            return false;
-        }
-    }
-    true
+    rows.iter().all(|row| is_narrow_row(row))
 }
 
 impl SubstitutionTable {
@@ -48,9 +38,10 @@ impl SubstitutionTable {
         ensures { result ≡ substituted (rows_of self.now) x }
     {
         let mut y: u32 = 0;
-        for place in (0..8usize).rev() {
-            let column = (x >> (4 * place as u32)) & 15;
-            y = (y << 4) | u32::from(self.rows[place][column as usize]);
+        for (place, row) in self.rows.iter().enumerate() {
+            let low = 4 * place as u32;
+            let column = (x >> low) & 15;
+            y |= u32::from(row[column as usize]) << low;
         }
         y
     }

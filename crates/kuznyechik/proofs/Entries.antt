@@ -1,6 +1,6 @@
 -- What holds of Pi' and its inverse at every byte: one test over the tables, computed, and carried to
 -- each byte.
-use Rattle.std.proofs.Common.{◌≡◌, ℕ, zero, suc, ◌/◌, ◌%◌, ◌<◌, Bool, true, ◌&&◌, eqb, ltb, List, [], ◌∷◌, get_or, take, drop, refl, inl, inr, arith}
+use Rattle.std.proofs.Common.{◌≡◌, ℕ, zero, suc, ◌<◌, Bool, true, ◌&&◌, eqb, ltb, List, [], ◌∷◌, get_or, refl, inl, inr, arith}
 use Rattle.std.proofs.lemmas.Bool.{eqb-true, ltb-true, and_parts, cases_lt}
 use Rattle.kuznyechik.specs.Pi.{pi, pi⁻¹}
 
@@ -15,28 +15,19 @@ passed test (suc n) h k l =
     let parts = and_parts (test n) (passes test n) h in
     elim (cases_lt k n) [ inl below ↦ passed test n parts.1 k below | inr above ↦ let e : k ≡ n = omega arith in rw e parts.0 ]
 
--- a table in rows of eight
-abbrev pub rows : ℕ → List ℕ → List (List ℕ)
-rows zero xs = []
-rows (suc n) xs = take 8 xs ∷ rows n (drop 8 xs)
-
--- each table holds bytes, is what its rows hold, and undoes the other
+-- each table holds bytes, and undoes the other
 abbrev test : List ℕ → List ℕ → ℕ → Bool
-test xs ys b =
-    ltb (get_or xs b 0) 256 && (eqb (get_or ys (get_or xs b 0) 0) b && eqb (get_or (get_or (rows 32 xs) (b / 8) []) (b % 8) 0) (get_or xs b 0))
+test xs ys b = ltb (get_or xs b 0) 256 && eqb (get_or ys (get_or xs b 0) 0) b
 
 pub record Entry (xs ys : List ℕ) (b : ℕ) : Type 0 where
   pub byte : get_or xs b 0 < 256
   pub back : get_or ys (get_or xs b 0) 0 ≡ b
-  pub in_rows : get_or (get_or (rows 32 xs) (b / 8) []) (b % 8) 0 ≡ get_or xs b 0
 
 entry : (xs ys : List ℕ) (b : ℕ) → test xs ys b ≡ true → Entry xs ys b
 entry xs ys b h =
     let x = get_or xs b 0 in
-    let r = get_or (get_or (rows 32 xs) (b / 8) []) (b % 8) 0 in
-    let first = and_parts (ltb x 256) (eqb (get_or ys x 0) b && eqb r x) h in
-    let rest = and_parts (eqb (get_or ys x 0) b) (eqb r x) first.1 in
-    record { byte = ltb-true x 256 first.0; back = eqb-true (get_or ys x 0) b rest.0; in_rows = eqb-true r x rest.1 }
+    let parts = and_parts (ltb x 256) (eqb (get_or ys x 0) b) h in
+    record { byte = ltb-true x 256 parts.0; back = eqb-true (get_or ys x 0) b parts.1 }
 
 both : ℕ → Bool
 both b = test pi pi⁻¹ b && test pi⁻¹ pi b

@@ -1,9 +1,7 @@
 -- Turns of the loops that apply the transformations.
-use Rattle.std.proofs.Common.{◌≡◌, ℕ, suc, ◌+◌, ◌-◌, ◌<◌, ◌≤◌, List, [], ◌∷◌, ◌++◌, map, length, get_or, take, drop, set, sym, ap, ◌∙◌, ap₂, arith}
-use lib.Bits.{bit_xor, xor_assoc, xor_zero_r}
+use Rattle.std.proofs.Common.{◌≡◌, ℕ, suc, ◌+◌, ◌-◌, ◌<◌, ◌≤◌, List, [], ◌∷◌, ◌++◌, map, length, get_or, take, drop, set, sym, refl, ap, ◌∙◌, arith}
 use Rattle.std.proofs.lemmas.List.Edits.{map_over_more}
 use Rattle.std.proofs.lemmas.List.{drop_more, drop_all, take_all, get_or_default, append-nil, set_at}
-use Rattle.kuznyechik.specs.Field.{product}
 use Rattle.kuznyechik.specs.Steps.{combined, ℓ, R, R⁻¹, times}
 
 -- a table put over the bytes of a block: those before place i are done
@@ -14,18 +12,15 @@ pub over_more : (table a now : List ℕ) (i x : ℕ) → i < length a → length
 over_more table a now i x h k e y =
     ap (set now i) y ∙ map_over_more (λ b. get_or table b 0) a now i (get_or now i 0) h e (get_or_default now i 0 (get_or now i 0) (omega arith))
 
-pub over_all : (table a : List ℕ) (i : ℕ) → length a ≤ i → over table i a ≡ map (λ b. get_or table b 0) a
-over_all table a i h = rw (take_all i a h, drop_all i a h) (append-nil (map (λ b. get_or table b 0) a))
+-- the sum of no products
+pub combined_no_factor : (cs bs : List ℕ) → length cs ≡ 0 → combined cs bs ≡ 0
+combined_no_factor [] bs h = refl
+combined_no_factor (c ∷ cs) bs h = absurd (omega arith)
 
--- the sum of the products from place i on
-pub combined_more : (sum i : ℕ) (cs bs : List ℕ) → i < length cs → i < length bs →
-    bit_xor (bit_xor sum (product (get_or cs i 0) (get_or bs i 0))) (combined (drop (i + 1) cs) (drop (i + 1) bs)) ≡ bit_xor sum (combined (drop i cs) (drop i bs))
-combined_more sum i cs bs h k =
-    xor_assoc sum (product (get_or cs i 0) (get_or bs i 0)) (combined (drop (i + 1) cs) (drop (i + 1) bs))
-    ∙ ap (bit_xor sum) (sym (ap₂ combined (drop_more cs i 0 h) (drop_more bs i 0 k)))
-
-pub combined_all : (sum i : ℕ) (cs bs : List ℕ) → length cs ≤ i → bit_xor sum (combined (drop i cs) (drop i bs)) ≡ sum
-combined_all sum i cs bs h = rw (drop_all i cs h) (xor_zero_r sum)
+pub combined_no_byte : (cs bs : List ℕ) → length bs ≡ 0 → combined cs bs ≡ 0
+combined_no_byte [] bs h = refl
+combined_no_byte (c ∷ cs) [] h = refl
+combined_no_byte (c ∷ cs) (b ∷ bs) h = absurd (omega arith)
 
 -- one time less is left
 pub times_more : (f : List ℕ → List ℕ) (n i : ℕ) (a b : List ℕ) → i < n → b ≡ f a → times (n - (i + 1)) f b ≡ times (n - i) f a

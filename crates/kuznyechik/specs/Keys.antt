@@ -1,8 +1,5 @@
 -- Round keys K1 to K10 of a key of 32 bytes.
-use Rattle.std.specs.Prelude.{ℕ, zero, suc, ◌+◌, ◌*◌, cond, List, [], ◌∷◌, ◌++◌, length, take, drop, replicate, Ok, Err, Result, ◌==◌}
-use Rattle.refusals.specs.declared.Reason.TheVariants.{WrongBuffer}
-use Rattle.refusals.specs.declared.Layer.TheVariants.{File}
-use Rattle.refusals.specs.Codes.{Code, refuse}
+use Rattle.std.specs.Prelude.{ℕ, zero, suc, ◌+◌, ◌*◌, cond, List, [], ◌∷◌, ◌++◌, length, take, drop, replicate, ◌==◌}
 use Rattle.kuznyechik.specs.Steps.{X, L, LSX}
 
 -- the round constant C_i: L of the block whose last byte is i and whose other bytes are 0
@@ -30,10 +27,6 @@ pairs (suc m) i p = p.0 ∷ (p.1 ∷ pairs m (i + 1) (steps 8 (8 * i) p))
 unfoldable pub round_keys : List ℕ → List (List ℕ)
 round_keys key = pairs 5 0 (take 16 key, drop 16 key)
 
--- a key of another length than 32 bytes is refused
-abbrev pub key_answer : List ℕ → Result Unit Code
-key_answer key = cond (length key == 32) (Ok tt) (Err (refuse WrongBuffer 0 File))
-
--- and leaves the round keys as they were
+-- a key of another length than 32 bytes leaves the round keys as they were
 abbrev pub spread : List ℕ → List (List ℕ) → List (List ℕ)
 spread key was = cond (length key == 32) (round_keys key) was

@@ -1,12 +1,21 @@
 //! Round keys.
 
-ghost use Rattle.std.specs.Prelude.{◌≡◌, ◌≤◌};
+ghost use Rattle.std.specs.Prelude.{◌≡◌, ◌≤◌, length};
 ghost use Rattle.refusals.specs.Codes.{outcome};
-ghost use Rattle.kuznyechik.specs.Keys.{C, F, Pair, steps, key_answer, spread};
+ghost use Rattle.blocks.specs.Ciphers.{key_answer};
+ghost use Rattle.kuznyechik.specs.Keys.{C, F, steps, spread};
 
 use crate::steps::{mix, round};
-use blocks::xor_into;
-use refusals::{Layer, Reason, Refusal};
+use blocks::{judge_length, xor_into};
+use refusals::{Layer, Refusal};
+
+/// The two blocks (a1, a0) that F turns: a pair of round keys.
+#[derive(Clone, Copy)]
+struct Pair {
+    a1: [u8; 16],
+    a0: [u8; 16],
+    ghost sixteen: { (length a1 ≡ 16) × (length a0 ≡ 16) },
+}
 
 /// The round constant with number `i`.
 fn constant(i: u8) -> [u8; 16]
@@ -18,23 +27,28 @@ fn constant(i: u8) -> [u8; 16]
     block
 }
 
-/// F with the round constant number `i`, on a pair in place.
-fn step(i: u8, a1: &mut [u8; 16], a0: &mut [u8; 16])
-    ensures { (a1.new, a0.new) ≡ F (C i) (a1.old, a0.old) }
-{
-    let was = *a1;
-    round(a1, &constant(i));
-    xor_into(a1, a0);
-    *a0 = was;
-}
+impl Pair {
+    /// F with the round constant number `i`.
+    fn step(self, i: u8) -> Pair
+        ensures { (result.a1, result.a0) ≡ F (C i) (self.a1, self.a0) }
+    {
+        let Pair { a1, a0 } = self;
+        let mut next = a1;
+        round(&mut next, &constant(i));
+        xor_into(&mut next, &a0);
+        Pair { a1: next, a0: a1 }
+    }
 
-/// The eight steps from one pair to the next, with the constants after number `i`.
-fn eight_steps(i: u8, a1: &mut [u8; 16], a0: &mut [u8; 16])
-    requires { i ≤ 24 }
-    ensures { (a1.new, a0.new) ≡ steps 8 i (a1.old, a0.old) }
-{
-    for j in 0..8u8 {
-        step(i + j + 1, a1, a0);
+    /// The eight steps to the next pair, with the constants after number `i`.
+    fn next(self, i: u8) -> Pair
+        requires { i ≤ 24 }
+        ensures { (result.a1, result.a0) ≡ steps 8 i (self.a1, self.a0) }
+    {
+        let mut pair = self;
+        for j in 0..8u8 {
+            pair = pair.step(i + j + 1);
+        }
+        pair
     }
 }
 
@@ -44,17 +58,18 @@ pub fn spread_key(key: &[u8], keys: &mut [[u8; 16]; 10]) -> Result<(), Refusal>
     ensures answer { outcome result ≡ key_answer key.now }
     ensures keys { keys.new ≡ spread key.now keys.old }
 {
-    if key.len() != 32 {
-        return Err(Refusal::new(Reason::WrongBuffer, 0, Layer::File));
-    }
+    judge_length(32, Layer::File, key)?;
     let mut a1 = [0u8; 16];
     let mut a0 = [0u8; 16];
     a1.copy_from_slice(&key[0..16]);
     a0.copy_from_slice(&key[16..32]);
     keys[0] = a1;
     keys[1] = a0;
+    let mut pair = Pair { a1, a0 };
+    // By index: after a loop over `chunks_exact_mut` a proof knows no element.
     for i in 1..5usize {
-        eight_steps(8 * (i as u8 - 1), &mut a1, &mut a0);
+        pair = pair.next(8 * (i as u8 - 1));
+        let Pair { a1, a0 } = pair;
         keys[2 * i] = a1;
         keys[2 * i + 1] = a0;
     }

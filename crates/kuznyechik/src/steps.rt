@@ -1,10 +1,10 @@
 //! The transformations S, R and L on a block in place.
 
-ghost use Rattle.std.specs.Prelude.{◌≡◌, length};
-ghost use Rattle.kuznyechik.specs.Steps.{S, S⁻¹, ℓ, R, R⁻¹, L, L⁻¹, LSX, XS⁻¹L⁻¹};
+ghost use Rattle.std.specs.Prelude.{◌≡◌, length, map, slice_index};
+ghost use Rattle.kuznyechik.specs.Steps.{ℓ, R, R⁻¹, L, L⁻¹, LSX, XS⁻¹L⁻¹};
 
 use crate::field::multiply;
-use crate::table::{put_back, replace};
+use crate::table::{PI, PI_INVERSE};
 use blocks::xor_into;
 
 /// The factor of each byte in l.
@@ -27,21 +27,12 @@ const FACTORS: [u8; 16] = [
     1, // a0
 ];
 
-/// S: each byte through Pi'.
-fn substitute(block: &mut [u8])
-    ensures { block.new ≡ S block.old }
+/// S with Pi' for the table, and its inverse with that of Pi': each byte through the table.
+fn substitute(table: &[u8; 256], block: &mut [u8])
+    ensures { block.new ≡ map (λ b. slice_index table.now b) block.old }
 {
-    for i in 0..block.len() {
-        block[i] = replace(block[i]);
-    }
-}
-
-/// The inverse of S.
-fn unsubstitute(block: &mut [u8])
-    ensures { block.new ≡ S⁻¹ block.old }
-{
-    for i in 0..block.len() {
-        block[i] = put_back(block[i]);
+    for b in block.iter_mut() {
+        *b = table[*b as usize];
     }
 }
 
@@ -51,8 +42,8 @@ fn combine(block: &[u8]) -> u8
     ensures { result ≡ ℓ block.now }
 {
     let mut sum = 0u8;
-    for i in 0..16usize {
-        sum ^= multiply(FACTORS[i], block[i]);
+    for (c, b) in FACTORS.iter().zip(block) {
+        sum ^= multiply(*c, *b);
     }
     sum
 }
@@ -86,6 +77,7 @@ pub(crate) fn mix(block: &mut [u8])
     }
 }
 
+// A loop of its own: one shared with `mix` would take the step as a closure over `&mut`, with its law.
 /// The inverse of L.
 fn unmix(block: &mut [u8])
     requires { length block.old ≡ 16 }
@@ -102,7 +94,7 @@ pub(crate) fn round(block: &mut [u8], key: &[u8; 16])
     ensures { block.new ≡ LSX key.now block.old }
 {
     xor_into(block, key);
-    substitute(block);
+    substitute(&PI, block);
     mix(block);
 }
 
@@ -112,6 +104,6 @@ pub(crate) fn unround(block: &mut [u8], key: &[u8; 16])
     ensures { block.new ≡ XS⁻¹L⁻¹ key.now block.old }
 {
     unmix(block);
-    unsubstitute(block);
+    substitute(&PI_INVERSE, block);
     xor_into(block, key);
 }

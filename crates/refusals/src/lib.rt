@@ -18,48 +18,48 @@ use std::fmt;
 #[derive(Clone, Copy, PartialEq, Eq, Debug)]
 pub enum Reason {
     /// A line of a description is malformed or has a value that is not allowed.
-    MalformedLine,
+    MalformedLine = 1,
     /// A line of a description gives again what an earlier one gave.
-    RepeatedLine,
+    RepeatedLine = 2,
     /// A description ends without one of its parts.
-    MissingPart,
+    MissingPart = 3,
     /// A description or a download file of a size that is not allowed.
-    WrongSize,
+    WrongSize = 4,
     /// A field, or a number of a substitution table, that is not allowed.
-    BadField,
+    BadField = 5,
     /// A length of an image or a text that is not allowed.
-    BadLength,
+    BadLength = 6,
     /// Pages beyond the target, or shared by two sections.
-    BadPages,
+    BadPages = 7,
     /// The bodies of a download file do not end where it ends.
-    BodiesEnd,
+    BodiesEnd = 8,
     /// A buffer, a key or a record of the wrong length, or a cipher of another block length.
-    WrongBuffer,
+    WrongBuffer = 9,
     /// A frame that does not lie on the body's blocks, or a block that there is not.
-    BadBlock,
+    BadBlock = 10,
     /// A block that arrived before with other bytes.
-    Conflict,
+    Conflict = 11,
     /// A block that is needed and has not arrived.
-    MissingBlock,
+    MissingBlock = 12,
     /// A page that is not on the target or not of the image.
-    NoSuchPage,
+    NoSuchPage = 13,
     /// A page that is locked.
-    LockedPage,
+    LockedPage = 14,
     /// A page that is not ready to be programmed.
-    NotReady,
+    NotReady = 15,
 }
 
 /// The layer that found a call to be refused.
 #[derive(Clone, Copy, PartialEq, Eq, Debug)]
 pub enum Layer {
     /// The target description.
-    Description,
+    Description = 1,
     /// The download file: its sections, tables and keys.
-    File,
+    File = 2,
     /// Blocks, buffers and downloads.
-    Download,
+    Download = 3,
     /// Targets.
-    Target,
+    Target = 4,
 }
 
 /// A refusal: why, where, and by which layer.
@@ -87,23 +87,7 @@ impl Reason {
     pub fn number(self) -> u8
         ensures { result ≡ number self }
     {
-        match self {
-            Reason::MalformedLine => 1,
-            Reason::RepeatedLine => 2,
-            Reason::MissingPart => 3,
-            Reason::WrongSize => 4,
-            Reason::BadField => 5,
-            Reason::BadLength => 6,
-            Reason::BadPages => 7,
-            Reason::BodiesEnd => 8,
-            Reason::WrongBuffer => 9,
-            Reason::BadBlock => 10,
-            Reason::Conflict => 11,
-            Reason::MissingBlock => 12,
-            Reason::NoSuchPage => 13,
-            Reason::LockedPage => 14,
-            Reason::NotReady => 15,
-        }
+        self as u8
     }
 }
 
@@ -112,12 +96,7 @@ impl Layer {
     pub fn number(self) -> u8
         ensures { result ≡ layer_number self }
     {
-        match self {
-            Layer::Description => 1,
-            Layer::File => 2,
-            Layer::Download => 3,
-            Layer::Target => 4,
-        }
+        self as u8
     }
 }
 

@@ -1,7 +1,7 @@
-use Rattle.std.proofs.Common.{◌≡◌, drop}
+use Rattle.std.proofs.Common.{◌≡◌}
 use lib.Bits.{bit_xor}
-use Rattle.kuznyechik.specs.Steps.{factors, combined}
+use Rattle.kuznyechik.specs.Steps.{combined, ℓ}
 use Rattle.kuznyechik.proofs.steps.combine.Given as goal
 
-abbrev pub invariant-loop-i : goal.invariant-loop-i
-invariant-loop-i l = bit_xor l.sum (combined (drop l.i factors) (drop l.i l.block)) ≡ combined factors l.block
+abbrev pub invariant-loop-c : goal.invariant-loop-c
+invariant-loop-c l = bit_xor l.sum (combined l.c-iterator.a.rest.now l.c-iterator.b.rest.now) ≡ ℓ l.block

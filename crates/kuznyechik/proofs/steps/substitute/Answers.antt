@@ -1,13 +1,10 @@
-use Rattle.std.proofs.Common.{◌∙◌, arith}
-use Rattle.kuznyechik.specs.Pi.{pi}
-use Rattle.kuznyechik.specs.Steps.{S}
-use Rattle.kuznyechik.proofs.Turns.{over_more, over_all}
+use Rattle.std.proofs.Common.{get_or, refl, arith}
+use Rattle.kuznyechik.proofs.Turns.{over_more}
 use Rattle.kuznyechik.proofs.steps.substitute.Goals as goal
 
-pub loop-i-preserved : goal.loop-i-preserved
-loop-i-preserved c =
-    over_more pi c.args.block.now c.loop-i.block c.loop-i.i c.replace.result (omega arith) (omega arith) c.loop-i.invariant c.replace.ensures
-
-pub returns : goal.returns
-unfolding S
-returns c = c.loop-i.invariant ∙ over_all pi c.args.block.now c.loop-i.i (omega arith)
+pub loop-b-preserved : goal.loop-b-preserved
+loop-b-preserved c =
+    let table = c.args.table.now in
+    let block = c.loop-b.block in
+    let i = c.loop-b.b-index in
+    over_more table c.args.block.now block i (get_or table (get_or block i 0) 0) (omega arith) (omega arith) c.loop-b.invariant refl

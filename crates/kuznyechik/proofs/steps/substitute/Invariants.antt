@@ -1,7 +1,6 @@
 use Rattle.std.proofs.Common.{◌≡◌}
-use Rattle.kuznyechik.specs.Pi.{pi}
 use Rattle.kuznyechik.proofs.Turns.{over}
 use Rattle.kuznyechik.proofs.steps.substitute.Given as goal
 
-abbrev pub invariant-loop-i : goal.invariant-loop-i
-invariant-loop-i l = l.block ≡ over pi l.i l.initial.block
+abbrev pub invariant-loop-b : goal.invariant-loop-b
+invariant-loop-b l = l.block ≡ over l.table l.b-index l.initial.block

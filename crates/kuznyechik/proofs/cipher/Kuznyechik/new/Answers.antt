@@ -3,7 +3,7 @@ use Rattle.kuznyechik.proofs.Undoing.{bytes_at}
 use Rattle.kuznyechik.proofs.cipher.Kuznyechik.new.Goals as goal
 
 pub loop-key-preserved : goal.loop-key-preserved
-loop-key-preserved c = below_more _ _ c.loop-key.invariant c.hold_bytes.ensures
+loop-key-preserved c = below_more _ _ c.loop-key.invariant c.byte_count.ensures.bytes
 
 pub invariant_of-result : goal.invariant_of-result
 invariant_of-result c = record { bytes = bytes_at c.args.keys.now (λ i h. c.loop-key.invariant i (omega arith)) }

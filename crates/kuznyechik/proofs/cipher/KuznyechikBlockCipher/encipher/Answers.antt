@@ -1,15 +1,12 @@
-use Rattle.std.proofs.Common.{◌∙◌}
-use Rattle.blocks.proofs.Lengths.{accepted, replaced_is}
-use Rattle.kuznyechik.specs.Cipher.{enciphered, deciphered}
-use Rattle.kuznyechik.proofs.Undoing.{enciphered_undone}
+use Rattle.std.proofs.Common.{rules}
+use Rattle.blocks.proofs.Lengths.{turned_there}
+use Rattle.kuznyechik.specs.Cipher.{kuznyechik}
+use Rattle.kuznyechik.proofs.Undoing.{kuznyechik_lawful}
 use Rattle.kuznyechik.proofs.cipher.KuznyechikBlockCipher.encipher.Goals as goal
 
 pub returns : goal.returns
 returns c =
     let keys = c.args.self.now.keys.now in
-    let block = c.args.block.now in
-    let long = c.if-block-ne16.false in
-    let law = enciphered_undone keys c.args.self.now.bytes in
-    let made = replaced_is 16 (enciphered keys) block long in
-    let back = replaced_is 16 (deciphered keys) (enciphered keys block) (law.stays block (long, c.hold_bytes.ensures)).0 ∙ law.back block (long, c.hold_bytes.ensures) in
-    record { answer = accepted 16 block long; block = cc; undone = cc }
+    let judged = c.in_ok-judge_length.ensures in
+    let t = turned_there (kuznyechik keys) (kuznyechik_lawful keys c.args.self.now.bytes) c.args.block.now c.encipher_block.new.block (judged.sized, judged.bytes) c.encipher_block.ensures in
+    record { answer = search rules; block = t.0; undone = t.1 }

@@ -1,7 +1,0 @@
-use Rattle.kuznyechik.specs.Steps.{X}
-use Rattle.kuznyechik.specs.Keys.{F}
-use Rattle.kuznyechik.proofs.key.step.Goals as goal
-
-pub returns : goal.returns
-unfolding F X
-returns c = cc
