@@ -1,6 +1,5 @@
 -- What stays over every sequence of calls.
-use Rattle.std.proofs.Common.{◌≡◌, ℕ, zero, suc, Bool, true, List, [], ◌∷◌, length, set, replicate, Ok, Err, Result, sym, refl, ap, ◌∙◌, ap₂, arith}
-use Rattle.std.proofs.lemmas.Bool.{both_ways}
+use Rattle.std.proofs.Common.{◌≡◌, ℕ, zero, suc, Bool, true, List, [], ◌∷◌, length, set, replicate, Ok, Err, Result, sym, refl, ap, ◌∙◌, arith, rules}
 use Rattle.std.proofs.lemmas.List.{get_or-set_other, get_or-set_same}
 use Rattle.refusals.specs.Codes.{Code}
 use Rattle.targets.specs.State.{TargetState, page_of, is_locked}
@@ -15,8 +14,8 @@ spared t p q bytes ready (Ok u) other = get_or-set_other t.pages q p bytes [] (�
 spared t p q bytes ready (Err e) other = refl
 
 step_spares : (t : TargetState) (p : ℕ) (s : Step) → (Alters t p s → ⊥) → page_of (step t s) p ≡ page_of t p
-step_spares t p (erase q) other = spared t p q _ true (erase_answer t q) other
-step_spares t p (program q bytes) other = spared t p q bytes t.rewritable (program_answer t q (length bytes)) other
+step_spares t p (erase q) other = search (rules, spared)
+step_spares t p (program q bytes) other = search (rules, spared)
 step_spares t p (read q) other = refl
 
 run_spares : (t : TargetState) (p : ℕ) (steps : List Step) → Untouched t p steps → page_of (run t steps) p ≡ page_of t p
@@ -51,8 +50,8 @@ reads_back t p bytes long granted steps untouched out room =
 
 -- no call alters a locked page
 barred : (t : TargetState) (p : ℕ) (s : Step) → is_locked t p ≡ true → Alters t p s → ⊥
-barred t p (erase q) e h = both_ways (is_locked t q) (erase_granted t q h.1).1 (ap (is_locked t) h.0 ∙ e)
-barred t p (program q bytes) e h = both_ways (is_locked t q) (program_granted t q (length bytes) h.1).2 (ap (is_locked t) h.0 ∙ e)
+barred t p (erase q) e h = grind (arith, erase_granted)
+barred t p (program q bytes) e h = grind (arith, program_granted)
 barred t p (read q) e h = h
 
 pub locks_keep : (t : TargetState) → LocksKeep t
@@ -64,15 +63,15 @@ locks_keep t p e (s ∷ steps) =
 set_same : (count q : ℕ) → set (replicate count true) q true ≡ replicate count true
 set_same zero q = refl
 set_same (suc count) zero = refl
-set_same (suc count) (suc q) = ap (λ (marks : List Bool). true ∷ marks) (set_same count q)
+set_same (suc count) (suc q) = grind (arith, set_same count q)
 
 ready_after : (t : TargetState) (q : ℕ) (bytes : List ℕ) (ready : Bool) (r : Result Unit Code) → ready ≡ true → t.ready ≡ replicate t.page_count true → (after r t (with_page t q bytes ready)).ready ≡ replicate t.page_count true
-ready_after t q bytes ready (Ok u) e all = ap₂ (λ (marks : List Bool) (b : Bool). set marks q b) all e ∙ set_same t.page_count q
+ready_after t q bytes ready (Ok u) e all = search (rules, set_same)
 ready_after t q bytes ready (Err u) e all = all
 
 ready_step : (t : TargetState) (s : Step) → t.rewritable ≡ true → t.ready ≡ replicate t.page_count true → (step t s).ready ≡ replicate t.page_count true
-ready_step t (erase q) e all = ready_after t q _ true (erase_answer t q) refl all
-ready_step t (program q bytes) e all = ready_after t q bytes t.rewritable (program_answer t q (length bytes)) e all
+ready_step t (erase q) e all = search (rules, ready_after)
+ready_step t (program q bytes) e all = search (rules, ready_after)
 ready_step t (read q) e all = all
 
 pub always_ready : (t : TargetState) → t.rewritable ≡ true → t.ready ≡ replicate t.page_count true → AlwaysReady t

@@ -1,5 +1,5 @@
 -- Targets over lent memory.
-use Rattle.std.specs.Prelude.{ℕ, zero, suc, ◌+◌, ◌*◌, ◌/◌, min, Bool, cond, ◌&&◌, List, [], ◌∷◌, length, take, drop, replicate, Ok, Err, Result, ◌==◌}
+use Rattle.std.specs.Prelude.{ℕ, zero, suc, ◌*◌, Bool, cond, ◌&&◌, List, [], ◌∷◌, length, take, drop, replicate, Ok, Err, Result, ◌==◌}
 use Rattle.refusals.specs.declared.Reason.TheVariants.{WrongBuffer}
 use Rattle.refusals.specs.declared.Layer.TheVariants.{Target}
 use Rattle.refusals.specs.Codes.{Code, refuse}
@@ -24,17 +24,8 @@ laid_out rewritable n count fill memory locked ready = record {
   rewritable = rewritable;
 }
 
--- the page length is kept as how many times 16 bytes it has beyond the first 16: so it is allowed,
--- whatever is kept
-abbrev pub length_of : ℕ → ℕ
-length_of sixteens = 16 * (sixteens + 1)
-
--- how many pages of n bytes there are in memory, of the 1,024 that have marks
-abbrev pub count_of : ℕ → List ℕ → ℕ
-count_of n memory = min (length memory / n) 1024
-
-abbrev pub state_of : {kind : ℕ} → Bool → Paged kind → TargetState
-state_of rewritable t = laid_out rewritable (length_of t.sixteens) (count_of (length_of t.sixteens) t.memory.now) t.fill t.memory.now t.locked t.ready
+abbrev pub state_of : {K : Type 0} → Bool → Paged K → TargetState
+state_of rewritable t = laid_out rewritable t.page_length t.page_count t.fill t.memory.now t.locked t.ready
 
 -- building one: the memory has to be of exactly its pages. If it is rewritable, every page is ready,
 -- else none

@@ -1,77 +1,62 @@
-//! The calls on a target over lent memory.
+//! The calls on a target over lent memory, of either kind.
 
-ghost use Rattle.std.specs.Prelude.{◌≡◌, Bool, length};
-ghost use Rattle.refusals.specs.Codes.{outcome};
-ghost use Rattle.targets.specs.State.{WellFormed};
-ghost use Rattle.targets.specs.Calls.{erase_answer, erased, program_answer, programmed, read_answer, read_out};
-ghost use Rattle.targets.specs.Laws.{ReadsBack, LocksKeep};
-ghost use Rattle.targets.specs.Paged.{laid_out, length_of, count_of, state_of};
+ghost use Rattle.std.specs.Prelude.{◌≡◌, ◌+◌, ◌*◌, ◌<◌};
+ghost use Rattle.targets.specs.Paged.{state_of};
 
+use crate::Target;
+use crate::kinds::Kind;
 use crate::paged::Paged;
 use refusals::Refusal;
+use std::ops::Range;
 
-/// Whatever the parts are, they keep the law of the interface. Nothing is computed.
-fn keep_law(sixteens: u8, fill: u8, memory: &[u8], locked: &[bool; 1024], ready: &[bool; 1024])
-    ensures { (rewritable : Bool) → WellFormed (laid_out rewritable (length_of sixteens) (count_of (length_of sixteens) memory.now) fill memory.now locked.now ready.now) }
-{
-    // That the memory holds bytes is known once it is looked at.
-    let _none = memory.is_empty();
+impl<K: Kind> Paged<'_, K> {
+    /// Where a page lies in the memory.
+    fn place(&self, page: u32) -> Range<usize>
+        requires { page < self.now.page_count }
+        ensures start { result.start ≡ page * self.now.page_length }
+        ensures end { result.end ≡ page * self.now.page_length + self.now.page_length }
+    {
+        let size = self.page_length as usize;
+        let start = page as usize * size;
+        start..start + size
+    }
 }
 
-impl<const REWRITABLE: bool> Paged<'_, REWRITABLE> {
-    /// The page length, with the law of the interface.
-    pub(crate) fn lawful_length(&self) -> u32
-        ensures value { result ≡ (state_of REWRITABLE self.now).page_length }
-        ensures formed { WellFormed (state_of REWRITABLE self.now) }
-    {
-        keep_law(
-            self.sixteens,
-            self.fill,
-            self.memory,
-            &self.locked,
-            &self.ready,
-        );
-        self.size()
+impl<K: Kind> Target for Paged<'_, K> {
+    ghost state = { state_of K.REWRITABLE };
+
+    fn page_length(&self) -> u32 {
+        self.page_length
     }
 
-    /// Fills a page, and makes it ready.
-    pub(crate) fn erase_page(&mut self, page: u32) -> Result<(), Refusal>
-        ensures answer { outcome result ≡ erase_answer (state_of REWRITABLE self.old) page }
-        ensures after { state_of REWRITABLE self.new ≡ erased (state_of REWRITABLE self.old) page }
-        ensures locks { LocksKeep (state_of REWRITABLE self.old) }
-    {
+    fn page_count(&self) -> u32 {
+        self.page_count
+    }
+
+    fn fill(&self) -> u8 {
+        self.fill
+    }
+
+    fn erase(&mut self, page: u32) -> Result<(), Refusal> {
         self.may_erase(page)?;
-        let size = self.size() as usize;
-        let at = page as usize * size;
+        let place = self.place(page);
         let fill = self.fill;
-        self.memory[at..at + size].fill(fill);
+        self.memory[place].fill(fill);
         self.ready[page as usize] = true;
         Ok(())
     }
 
-    /// Puts bytes into a page that is ready.
-    pub(crate) fn program_page(&mut self, page: u32, bytes: &[u8]) -> Result<(), Refusal>
-        ensures answer { outcome result ≡ program_answer (state_of REWRITABLE self.old) page (length bytes.now) }
-        ensures after { state_of REWRITABLE self.new ≡ programmed (state_of REWRITABLE self.old) page bytes.now }
-        ensures kept { ReadsBack (state_of REWRITABLE self.old) page bytes.now }
-    {
+    fn program(&mut self, page: u32, bytes: &[u8]) -> Result<(), Refusal> {
         self.may_program(page, bytes.len())?;
-        let size = self.size() as usize;
-        let at = page as usize * size;
-        self.memory[at..at + size].copy_from_slice(bytes);
-        self.ready[page as usize] = REWRITABLE;
+        let place = self.place(page);
+        self.memory[place].copy_from_slice(bytes);
+        self.ready[page as usize] = K::REWRITABLE;
         Ok(())
     }
 
-    /// Copies a page into `out`.
-    pub(crate) fn read_page(&self, page: u32, out: &mut [u8]) -> Result<(), Refusal>
-        ensures answer { outcome result ≡ read_answer (state_of REWRITABLE self.now) page (length out.old) }
-        ensures out { out.new ≡ read_out (state_of REWRITABLE self.now) page out.old }
-    {
+    fn read(&self, page: u32, out: &mut [u8]) -> Result<(), Refusal> {
         self.may_read(page, out.len())?;
-        let size = self.size() as usize;
-        let at = page as usize * size;
-        out.copy_from_slice(&self.memory[at..at + size]);
+        out.copy_from_slice(&self.memory[self.place(page)]);
         Ok(())
     }
 }

@@ -1,11 +1,12 @@
 //! Whether a call on a page is refused.
 
-ghost use Rattle.std.specs.Prelude.{◌≡◌};
+ghost use Rattle.std.specs.Prelude.{◌≡◌, Ok};
 ghost use Rattle.refusals.specs.Codes.{outcome, code_of, refuse};
 ghost use Rattle.refusals.specs.declared.Layer.TheVariants.{Target as TargetLayer};
-ghost use Rattle.targets.specs.Calls.{erase_answer, program_answer, read_answer};
+ghost use Rattle.targets.specs.Calls.{refused_if, erase_answer, program_answer, read_answer};
 ghost use Rattle.targets.specs.Paged.{state_of};
 
+use crate::kinds::Kind;
 use crate::paged::Paged;
 use refusals::{Layer, Reason, Refusal};
 
@@ -16,45 +17,40 @@ pub(crate) fn refusal(reason: Reason, place: u32) -> Refusal
     Refusal::new(reason, place, Layer::Target)
 }
 
-impl<const REWRITABLE: bool> Paged<'_, REWRITABLE> {
+/// A refusal by a target, if so.
+fn refuse_if(so: bool, reason: Reason, place: u32) -> Result<(), Refusal>
+    ensures { outcome result ≡ refused_if so reason place (Ok tt) }
+{
+    if so {
+        return Err(refusal(reason, place));
+    }
+    Ok(())
+}
+
+impl<K: Kind> Paged<'_, K> {
     /// Whether the page may be erased.
     pub(crate) fn may_erase(&self, page: u32) -> Result<(), Refusal>
-        ensures { outcome result ≡ erase_answer (state_of REWRITABLE self.now) page }
+        ensures { outcome result ≡ erase_answer (state_of K.REWRITABLE self.now) page }
     {
-        if page >= self.count() {
-            return Err(refusal(Reason::NoSuchPage, page));
-        }
-        if self.locked[page as usize] {
-            return Err(refusal(Reason::LockedPage, page));
-        }
-        Ok(())
+        refuse_if(page >= self.page_count, Reason::NoSuchPage, page)?;
+        refuse_if(self.locked[page as usize], Reason::LockedPage, page)
     }
 
     /// Whether the page may be read into a buffer of that length.
     pub(crate) fn may_read(&self, page: u32, length: usize) -> Result<(), Refusal>
-        ensures { outcome result ≡ read_answer (state_of REWRITABLE self.now) page length }
+        ensures { outcome result ≡ read_answer (state_of K.REWRITABLE self.now) page length }
     {
-        if page >= self.count() {
-            return Err(refusal(Reason::NoSuchPage, page));
-        }
-        if length != self.size() as usize {
-            return Err(refusal(Reason::WrongBuffer, 0));
-        }
-        Ok(())
+        refuse_if(page >= self.page_count, Reason::NoSuchPage, page)?;
+        refuse_if(length != self.page_length as usize, Reason::WrongBuffer, 0)
     }
 
     /// Whether the page may be programmed with that many bytes.
     pub(crate) fn may_program(&self, page: u32, length: usize) -> Result<(), Refusal>
-        ensures { outcome result ≡ program_answer (state_of REWRITABLE self.now) page length }
+        ensures { outcome result ≡ program_answer (state_of K.REWRITABLE self.now) page length }
     {
         self.may_read(page, length)?;
         let place = page as usize;
-        if self.locked[place] {
-            return Err(refusal(Reason::LockedPage, page));
-        }
-        if !self.ready[place] {
-            return Err(refusal(Reason::NotReady, page));
-        }
-        Ok(())
+        refuse_if(self.locked[place], Reason::LockedPage, page)?;
+        refuse_if(!self.ready[place], Reason::NotReady, page)
     }
 }

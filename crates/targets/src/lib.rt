@@ -11,6 +11,7 @@
 
 #![tactic(auto)]
 
+mod building;
 mod calls;
 mod judging;
 pub mod kinds;

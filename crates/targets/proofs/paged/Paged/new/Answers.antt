@@ -1,14 +1,13 @@
-use Rattle.std.proofs.Common.{◌-◌, ◌/◌, not, eqb, arith}
-use Rattle.targets.specs.Paged.{length_of, count_of}
-use Rattle.targets.proofs.Built.{built_is, built_ready}
+use Rattle.std.proofs.Common.{Bool, true, take, replicate, ap, ◌∙◌, arith}
+use Rattle.std.proofs.lemmas.List.{take-replicate}
+use Rattle.blocks.proofs.Words.{bytes_from}
+use Rattle.targets.proofs.Kept.{always_ready}
 use Rattle.targets.proofs.paged.Paged.new.Goals as goal
 
-pub returns : goal.returns
-returns g c =
-    let rewritable = not (eqb g.row.REWRITABLE 0) in
-    let memory = c.args.memory.now in
-    let n = length_of (c.args.page_length / 16 - 1) in
-    record {
-      value = built_is rewritable memory c.args.page_length c.args.page_count c.args.fill c.args.locked.now (omega arith) (omega arith) (omega arith) (omega arith) (omega arith) (omega arith);
-      ready = built_ready rewritable n (count_of n memory) c.args.fill memory c.args.locked.now (omega arith);
-    }
+pub invariant_of-result-clause-held : goal.invariant_of-result-clause-held
+invariant_of-result-clause-held g c = bytes_from c.args.memory.now (λ i. grind arith)
+
+pub returns-clause-ready : goal.returns-clause-ready
+returns-clause-ready g c e =
+    let count = c.args.page_count in
+    always_ready _ e (ap (λ (b : Bool). take count (replicate 1024 b)) (c.REWRITABLE.ensures ∙ e) ∙ take-replicate count 1024 true (omega arith))
