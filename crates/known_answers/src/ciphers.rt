@@ -125,14 +125,13 @@ fn key_words(v: &Vector) -> Result<[u32; 8], Fault> {
 }
 
 /// Whether the imitovstavka is the expected one. It has 32 bits, or what stands for the sync.
-fn imitovstavka_agrees(table: &SubstitutionTable, v: &Vector) -> Result<bool, Fault> {
-    let words = key_words(v)?;
+fn imitovstavka_agrees(cipher: Gost<'_>, v: &Vector) -> Result<bool, Fault> {
     let bits = match v.sync.as_slice() {
         [] => 32,
         [bits] => *bits,
         _ => return Err(Fault::Malformed),
     };
-    let value = imitovstavka(table, &words, TagLength::new(bits)?, v.text.as_slice())?;
+    let value = imitovstavka(cipher, TagLength::new(bits)?, v.text.as_slice())?;
     Ok(value.to_le_bytes().as_slice() == v.expected.as_slice())
 }
 
@@ -144,6 +143,8 @@ pub(crate) fn agrees(heap: Global, v: &Vector) -> Result<bool, Fault> {
         Group::RoundKey => round_key_agrees(v),
         Group::Kuznyechik(work) => { work_agrees(heap, &Kuznyechik::new(&round_keys(v)?), work, v) }
         Group::Gost(work) => work_agrees(heap, &Gost::new(&table, &key_words(v)?), work, v),
-        Group::Imitovstavka | Group::ImitovstavkaAtL => imitovstavka_agrees(&table, v),
+        Group::Imitovstavka | Group::ImitovstavkaAtL => {
+            imitovstavka_agrees(Gost::new(&table, &key_words(v)?), v)
+        }
     }
 }

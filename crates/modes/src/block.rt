@@ -25,8 +25,7 @@ impl<C: BlockCipher> Chain<'_, C> {
             self.start(pad);
         } else {
             let n = pad.len();
-            let from = n * (i - 1);
-            pad.copy_from_slice(&body[from..from + n]);
+            pad.copy_from_slice(&body[n * (i - 1)..n * i]);
         }
     }
 

@@ -73,6 +73,7 @@ impl Counters {
 }
 
 /// A cipher in a mode with a sync that agrees, and Y and Z of counter mode.
+// The pad is lent beside it: of a struct that holds a `&mut` no ghost field is proved.
 #[derive(Drop)]
 pub(crate) struct Chain<'a, C: BlockCipher> {
     pub(crate) cipher: &'a C,
@@ -84,6 +85,7 @@ pub(crate) struct Chain<'a, C: BlockCipher> {
 }
 
 impl<'a, C: BlockCipher> Chain<'a, C> {
+    /// Works out Y and Z from the sync.
     pub(crate) fn new(cipher: &'a C, mode: Mode, sync: Option<Sync>) -> Chain<'a, C>
         requires { agrees (C.BlockCipher.map cipher.now).size mode sync ≡ true }
         ensures cipher { result.cipher.now ≡ cipher.now }

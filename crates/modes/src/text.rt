@@ -39,7 +39,7 @@ impl<C: BlockCipher> Chain<'_, C> {
         requires pad { Pad (C.BlockCipher.map self.now.cipher.now) pad.old }
         requires whole { whole_in self.now.mode (C.BlockCipher.map self.now.cipher.now).size (length text.old) ≡ true }
         requires bytes { Bytes text.old }
-        ensures { text.new ≡ enciphered (chaining (C.BlockCipher.map self.entry.now.cipher.now) self.entry.now.mode self.entry.now.sync) text.old }
+        ensures { text.new ≡ enciphered (chaining (C.BlockCipher.map self.now.cipher.now) self.now.mode self.now.sync) text.old }
     {
         let n = self.cipher.block_length();
         self.start(pad);
