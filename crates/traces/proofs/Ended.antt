@@ -14,6 +14,7 @@ use Rattle.traces.specs.Traces.{Setting, Call, Answer, Standing, standing, begun
 use Rattle.traces.specs.Promise.{Fit, Promise, target_after, closed_after}
 use Rattle.traces.specs.Buffers.{Buffers, buffers, buffers_after}
 use Rattle.traces.specs.Runs.{stands_by, Runs}
+use Rattle.traces.specs.Bench.{PerformsAll}
 use Rattle.traces.proofs.Promised.{promise_holds}
 use Rattle.traces.proofs.Told.{stands_as_told}
 use Rattle.traces.proofs.Calls.{cleared}
@@ -24,7 +25,7 @@ opened_then (Ok d) n body marks s e =
     let same : d ≡ s = cc a.1 in
     let p = and_parts (eqb n (block_of d)) (good_store d body marks) a.0 in
     (eqb-true n (block_of d) p.0 ∙ ap block_of same, ap (λ (x : Described). good_store x body marks) (sym same) ∙ p.1)
-opened_then (Err x) n body marks s e = let z : ◌≡◌ {A = ℕ} 0 1 = cc in absurd (omega arith)
+opened_then (Err x) n body marks s e = cc
 
 pub opened : (listing : List Described) (number n body marks : ℕ) (s : Described) → Ok s ≡ open_answer listing number n body marks → (n ≡ block_of s) × (good_store s body marks ≡ true)
 opened listing number n body marks s e = opened_then (asked number (section_at number listing)) n body marks s (sym e)
@@ -43,15 +44,15 @@ module _ (w : Setting) (t : TargetState) (fit : Fit w t) (body : List ℕ) (mark
   from_is = ap (λ (c : Copies). standing c false t) (ap (λ (m : List Arrival). copies_in (block_of w.section) body m) clean ∙ cleared (block_of w.section) (blocks_of w.section) body)
 
   -- what was run
-  pub run_whole : (told : List Answer) (page : List ℕ) (end : Standing) (left : Buffers) → told ≡ answers_of w from calls → end ≡ run w from calls → left ≡ buffers_after w from (buffers body marks page) calls →
+  pub run_whole : (told : List Answer) (page : List ℕ) (end : Standing) (left : Buffers) → PerformsAll w from end (buffers body marks page) left calls told →
       Runs w t (buffers body (replicate (blocks_of w.section) Missing) page) calls told end.target end.closed left
-  run_whole told page end left e h b =
-      let a : told ≡ answers_of w (begun t) calls = e ∙ ap (λ (x : Standing). answers_of w x calls) from_is in
-      let told_is = h ∙ (ap (λ (x : Standing). run w x calls) from_is ∙ stands_as_told w t calls) in
+  run_whole told page end left p =
+      let a : told ≡ answers_of w (begun t) calls = p.answers_are ∙ ap (λ (x : Standing). answers_of w x calls) from_is in
+      let told_is = p.stands ∙ (ap (λ (x : Standing). run w x calls) from_is ∙ stands_as_told w t calls) in
       record {
         answers_are = a;
         target_is = ap (λ (x : Standing). x.target) told_is ∙ ap (target_after w t calls) (sym a);
         closed_is = ap (λ (x : Standing). x.closed) told_is ∙ ap (closed_after calls) (sym a);
-        buffers_are = b ∙ ap₂ (λ (x : Standing) (m : List Arrival). buffers_after w x (buffers body m page) calls) from_is clean;
+        buffers_are = p.holds ∙ ap₂ (λ (x : Standing) (m : List Arrival). buffers_after w x (buffers body m page) calls) from_is clean;
         promise = subst (Promise w t calls) (sym a) (promise_holds w t calls fit all);
       }

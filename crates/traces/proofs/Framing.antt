@@ -167,7 +167,7 @@ put_from n copies f bytes i b h =
 
 made_done : (r : Result Unit Code) → answered r done ≡ done → r ≡ Ok tt
 made_done (Ok u) e = refl
-made_done (Err x) e = absurd (let z : ◌≡◌ {A = ℕ} 0 1 = cc in omega arith)
+made_done (Err x) e = cc
 
 conflict_by : (w : Setting) (s : Standing) (f : ℕ) (bytes : List ℕ) → s.closed ≡ false → GoodFrame w f (length bytes) → answer_to w s (frame f bytes) ≢ done → (o : Option ℕ) → found w f bytes s.copies ≡ o →
     (i : ℕ) × (answer_to w s (frame f bytes) ≡ refused_with 11 i) × Lowest (Conflicts w s.copies f bytes) i
@@ -181,7 +181,7 @@ frame_answered w s f bytes fit =
     record {
       only = λ e.
           ⊎_elim
-          (λ (o : s.closed ≡ true). absurd (let q = sym (answer_not w s c (ap not o)) ∙ e in let z : ◌≡◌ {A = ℕ} 0 1 = cc in omega arith))
+          (λ (o : s.closed ≡ true). let q = sym (answer_not w s c (ap not o)) ∙ e in cc)
           (λ (o : s.closed ≡ false).
           let p = frame_parts w f bytes s.copies (made_done (frame_judged w.section s.copies f bytes) (sym (answer-built w s c (ap not o)) ∙ e)) in
           (o, p.0, found_none w f bytes s.copies fit p.1))

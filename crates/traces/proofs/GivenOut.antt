@@ -15,7 +15,7 @@ use Rattle.traces.specs.Answers.{given_as, blank, given_by}
 
 given_then : (r : Result Unit Code) (m k : ℕ) → then r (λ _. Ok m) ≡ Ok k → m ≡ k
 given_then (Ok u) m k e = cc e
-given_then (Err x) m k e = let z : ◌≡◌ {A = ℕ} 0 1 = cc in absurd (omega arith)
+given_then (Err x) m k e = cc
 
 module _ (c : BlockMap) (s : Described) (body marks : ℕ) (copies : Copies) (i : ℕ) where
   few : (room k : ℕ) → give_answer c s body marks copies i room ≡ Ok k → k ≤ block_of s

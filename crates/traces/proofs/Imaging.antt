@@ -2,6 +2,7 @@
 use Rattle.std.proofs.Common.{◌≡◌, ℕ, zero, suc, ◌+◌, ◌-◌, ◌*◌, ◌/◌, ◌%◌, ◌<◌, ◌≤◌, ◌⊎◌, List, [], ◌∷◌, ◌++◌, length, get_or, take, drop, replicate, sym, refl, ap, ◌∙◌, ap₂, inl, inr, ⊎_elim, suc-mul, mul-le-mul_left, mul-zero, zero-mul, mul-suc, mul-add, arith, take-add}
 use native.Mathlib.Nat.{lt_of_mul-lt-mul_left}
 use Rattle.std.proofs.lemmas.List.{drop_at, take-append-drop, append_assoc, append-nil, take_all, take_at, drop-drop, length-take, length-drop, length-append, length-replicate, nil_from_length, get_or-drop}
+use Rattle.std.proofs.Math.Seq.{take-append-add}
 use Rattle.std.proofs.lemmas.Bool.{cases_lt}
 use Rattle.blocks.specs.Bytes.{block}
 use Rattle.modes.specs.Modes.{joined}
@@ -29,10 +30,6 @@ filled_full P fill bytes h =
 filled_long : (P fill : ℕ) (bytes : List ℕ) → P ≤ length (filled_up P fill bytes)
 filled_long P fill bytes = omega (arith, length-append bytes (replicate (P - length bytes) fill), length-replicate (P - length bytes) fill)
 
--- the first bytes of two lists in a row
-take-front : (n : ℕ) (xs ys : List ℕ) → length xs ≡ n → (m : ℕ) → take (n + m) (xs ++ ys) ≡ xs ++ take m ys
-take-front n xs ys h m = take-add n m (xs ++ ys) ∙ ap₂ (λ (a b : List ℕ). a ++ take m b) (take_at xs ys n h) (drop_at xs ys n h)
-
 -- ---- pages that hold an image, one after the other
 
 pub pages_join : (P fill : ℕ) → 0 < P → (pages : List (List ℕ)) (image : List ℕ) →
@@ -54,7 +51,7 @@ pages_join P fill some (page ∷ pages) image h =
     let next : (j : ℕ) → j * P < length (drop P image) → get_or pages j [] ≡ filled_up P fill (take P (drop (j * P) (drop P image))) =
     λ j b. h (suc j) (omega (arith, suc-mul j P)) ∙ ap (λ (x : List ℕ). filled_up P fill (take P x)) (let e : suc j * P ≡ P + j * P = omega (arith, suc-mul j P) in ap (λ (x : ℕ). drop x image) e ∙ sym (drop-drop (j * P) P image)) in
     ap₂ (λ (x : ℕ) (y : List ℕ). take x (y ++ flat pages)) sum front
-    ∙ (take-front P (take P image) (flat pages) long (length (drop P image))
+    ∙ (ap (λ (x : ℕ). take (x + length (drop P image)) (take P image ++ flat pages)) (sym long) ∙ take-append-add (take P image) (flat pages) (length (drop P image))
     ∙ (ap (λ (x : List ℕ). take P image ++ x) (pages_join P fill some pages (drop P image) next)
     ∙ take-append-drop P image)))
     (λ (l : length image ≤ P).

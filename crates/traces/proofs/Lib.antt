@@ -17,5 +17,6 @@ pub mod Calls
 pub mod Pushing
 pub mod GivenOut
 pub mod Performed
+pub mod Benches
 pub mod Ran
 pub mod Ended

@@ -9,15 +9,15 @@ use Rattle.traces.specs.Traces.{Setting, Call, Answer, refused, not_built, Stand
 
 pub cond_ok : {X : Type 0} (b : Bool) (r : Result X Code) (e : Code) (x : X) → cond b r (Err e) ≡ Ok x → (b ≡ true) × (r ≡ Ok x)
 cond_ok true r e x h = (refl, h)
-cond_ok false r e x h = absurd (let z : ◌≡◌ {A = ℕ} 0 1 = cc in omega arith)
+cond_ok false r e x h = cc
 
 pub at_ok : (why : Reason) (o : Option ℕ) → refused_at why o ≡ Ok tt → o ≡ None
 at_ok why None h = refl
-at_ok why (Some k) h = absurd (let z : ◌≡◌ {A = ℕ} 0 1 = cc in omega arith)
+at_ok why (Some k) h = cc
 
 pub then_ok : (r : Result Unit Code) (next : Result Unit Code) → then r (λ _. next) ≡ Ok tt → (r ≡ Ok tt) × (next ≡ Ok tt)
 then_ok (Ok u) next h = (refl, h)
-then_ok (Err e) next h = absurd (let z : ◌≡◌ {A = ℕ} 0 1 = cc in omega arith)
+then_ok (Err e) next h = cc
 
 -- ---- a call cannot be made, is refused, or does what it does
 

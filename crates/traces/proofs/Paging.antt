@@ -135,12 +135,12 @@ module _ (w : Setting) (P : ℕ) (whole : P % block_of w.section ≡ 0) (j : ℕ
         (only_if (is_locked t p) LockedPage p r₄ (λ x. omega arith) (only_if (not (is_ready t p)) NotReady p (Ok tt) (λ x. omega arith) tt)))
 
     only_err : (r : Result Unit Code) → Only r → (e : Code) → answered r done ≡ refused e → Twelve e
-    only_err (Ok u) h e q = absurd (let z : ◌≡◌ {A = ℕ} 0 1 = cc in omega arith)
+    only_err (Ok u) h e q = cc
     only_err (Err x) h e q = let r : x ≡ e = cc in subst Twelve r h
 
   done_ok : (r : Result Unit Code) → answered r done ≡ done → r ≡ Ok tt
   done_ok (Ok u) q = refl
-  done_ok (Err x) q = absurd (let z : ◌≡◌ {A = ℕ} 0 1 = cc in omega arith)
+  done_ok (Err x) q = cc
 
   either_way : (r : Result Unit Code) → (answered r done ≡ done) ⊎ ((e : Code) × (answered r done ≡ refused e))
   either_way (Ok u) = inl refl

@@ -19,7 +19,7 @@ use Rattle.traces.proofs.Verifying.{verdict_is, verify_answered, same_verdict}
 
 module _ (w : Setting) (t : TargetState) (fit : Fit w t) where
   begun_lasts : Lasting w t (begun t)
-  begun_lasts = record { fits = λ k b e. absurd (let z : ◌≡◌ {A = ℕ} 0 1 = cc in omega arith); pages = fit.target.paged; size = refl; fill = refl }
+  begun_lasts = record { fits = λ k b e. cc; pages = fit.target.paged; size = refl; fill = refl }
 
   pub lasting : (calls : List Call) → AllOfBytes calls → Lasting w t (run w (begun t) calls)
   lasting calls b = run_lasts w t (begun t) calls b begun_lasts

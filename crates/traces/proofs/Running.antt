@@ -90,5 +90,5 @@ module _ (w : Setting) (t : TargetState) where
 
 pub done_does : (w : Setting) (s : Standing) (c : Call) → answer_to w s c ≡ done → (judged w s c ≡ Ok tt) × (step w s c ≡ effect w s c)
 done_does w s c =
-    by_outcome w s c (λ u a. a ≡ done → (judged w s c ≡ Ok tt) × (u ≡ effect w s c)) (λ b e. absurd (let z : ◌≡◌ {A = ℕ} 0 1 = cc in omega arith))
-    (λ x b q e. absurd (let z : ◌≡◌ {A = ℕ} 0 1 = cc in omega arith)) (λ b q e. (q, refl))
+    by_outcome w s c (λ u a. a ≡ done → (judged w s c ≡ Ok tt) × (u ≡ effect w s c)) (λ b e. cc)
+    (λ x b q e. cc) (λ b q e. (q, refl))

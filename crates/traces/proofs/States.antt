@@ -16,7 +16,7 @@ use Rattle.traces.proofs.Outcomes.{answer-built, answer_is, answer_not}
 use Rattle.traces.proofs.Wanted.{has_of, none_of}
 
 refused_not : (a : Answer) (e : Code) → a ≡ refused e → a ≡ done → ⊥
-refused_not a e p q = let r : refused e ≡ done = sym p ∙ q in let z : ◌≡◌ {A = ℕ} 0 1 = cc in omega arith
+refused_not a e p q = let r : refused e ≡ done = sym p ∙ q in cc
 
 erase_by : (t : TargetState) (p : ℕ) (a : Answer) → a ≡ answered (erase_answer t p) done → EraseAnswer t p a
 erase_by t p a e =
@@ -80,7 +80,7 @@ module _ (w : Setting) (s : Standing) where
         | inl shut ↦
             let said = answer_not w s close (ap not shut) in
             record {
-              only = λ q. absurd (let r = sym said ∙ q in let z : ◌≡◌ {A = ℕ} 0 1 = cc in omega arith);
+              only = λ q. let r = sym said ∙ q in cc;
               accepted = λ c h. absurd (false≢true (sym c ∙ shut));
               missing = λ c n. absurd (false≢true (sym c ∙ shut));
               late = λ c. said;

@@ -108,6 +108,6 @@ module _ (w : Setting) where
     pub copies_of : (calls : List Call) → AllOfBytes calls → Lasting w t (begun t) → CopiesOf w calls (answers_of w (begun t) calls) (run w (begun t) calls).copies
     copies_of calls b l =
         record {
-          from = λ i x h. ⊎_elim (λ (e : no_copies i ≡ Some x). absurd (let z : ◌≡◌ {A = ℕ} 0 1 = cc in omega arith)) (λ (e : Came calls (answers_of w (begun t) calls) i x). e) (from_run (begun t) calls i x h);
+          from = λ i x h. ⊎_elim (λ (e : no_copies i ≡ Some x). cc) (λ (e : Came calls (answers_of w (begun t) calls) i x). e) (from_run (begun t) calls i x h);
           all = puts_run (begun t) calls b l;
         }

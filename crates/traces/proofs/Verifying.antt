@@ -17,7 +17,7 @@ use Rattle.traces.proofs.Outcomes.{cond_ok, by_outcome, answer_is, answer_not}
 pub verdict_is : (w : Setting) (s : Standing) (good : Bool) → answer_to w s verify ≡ verdict good → (s.closed ≡ true) × (judged w s verify ≡ Ok tt) × (good_on w.rows w.key w.section s.target ≡ good)
 verdict_is w s good =
     by_outcome w s verify (λ u a. a ≡ verdict good → (s.closed ≡ true) × (judged w s verify ≡ Ok tt) × (good_on w.rows w.key w.section s.target ≡ good))
-    (λ b e. absurd (let z : ◌≡◌ {A = ℕ} 0 1 = cc in omega arith)) (λ x b q e. absurd (let z : ◌≡◌ {A = ℕ} 0 1 = cc in omega arith)) (λ b q e. (b, q, cc))
+    (λ b e. cc) (λ x b q e. cc) (λ b q e. (b, q, cc))
 
 pub verify_answered : (w : Setting) (s : Standing) → VerifyAnswer w s.target s.closed (answer_to w s verify)
 verify_answered w s =

@@ -5,3 +5,4 @@ pub mod Answers
 pub mod Meaning
 pub mod Buffers
 pub mod Runs
+pub mod Bench

@@ -2,7 +2,7 @@
 use Rattle.std.specs.Prelude.{Bool, true, false, take}
 use Rattle.refusals.specs.Codes.{code_of}
 use Rattle.sections.specs.Entries.{Described}
-use Rattle.downloads.specs.States.{receiving_of, closed_of, is_good}
+use Rattle.downloads.specs.States.{section_in as download_in, is_good}
 use Rattle.traces.specs.declared.call.Call.{Call}
 use Rattle.traces.specs.declared.call.Call.TheVariants.{Frame, Give, Erase, Program, Close, Reopen, Verify}
 use Rattle.traces.specs.declared.call.Answer.{Answer}
@@ -31,8 +31,8 @@ answer_of (Refused e) = trace.refused (code_of e)
 answer_of NotBuilt = trace.not_built
 
 abbrev pub section_of : Phase → Described
-section_of (Receiving d) = receiving_of d
-section_of (Closed d) = closed_of d
+section_of (Receiving d) = download_in d
+section_of (Closed d) = download_in d
 
 abbrev pub closed_in : Phase → Bool
 closed_in (Receiving d) = false

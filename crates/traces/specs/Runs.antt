@@ -28,10 +28,10 @@ abbrev pub run_answer : ℕ → ℕ → List Described → ℕ → ℕ → ℕ �
 run_answer calls answers listing number n body marks = sized (answers == calls) (open_answer listing number n body marks)
 
 -- a refusal changes nothing that was handed over
-pub record Unchanged (body body' : List ℕ) (marks marks' : List Arrival) (page page' : List ℕ) (answers answers' : List CodeAnswer) (t t' : TargetState) : Type 0 where
-  pub same_body : body' ≡ body
-  pub same_marks : marks' ≡ marks
-  pub same_page : page' ≡ page
+pub record Unchanged (b b' : Buffers) (answers answers' : List CodeAnswer) (t t' : TargetState) : Type 0 where
+  pub same_body : b'.body ≡ b.body
+  pub same_marks : b'.marks ≡ b.marks
+  pub same_page : b'.page ≡ b.page
   pub same_answers : answers' ≡ answers
   pub same_target : t' ≡ t
 

@@ -1,56 +1,63 @@
 //! One call of a trace.
 
 ghost use Rattle.std.specs.Prelude.{◌≡◌, true, false, ◌&&◌, length, if◌then◌else◌};
-ghost use Rattle.refusals.specs.Codes.{outcome, unless};
-ghost use Rattle.gost.specs.Cipher.{rows_of};
+ghost use Rattle.refusals.specs.Codes.{code_of, outcome, unless};
+ghost use Rattle.gost.specs.Keyed.{rows_in, words_in};
 ghost use Rattle.sections.specs.Meaning.{meaning_of};
-ghost use Rattle.downloads.specs.Marks.{marks_in};
-ghost use Rattle.downloads.specs.Copies.{copies_in};
-ghost use Rattle.downloads.specs.Frames.{block_of, frame_answer, with_frame, body_after, marks_after, close_answer};
+ghost use Rattle.downloads.specs.Frames.{block_of, with_frame, body_after, marks_after};
 ghost use Rattle.downloads.specs.Verdicts.{verify_answer, read_after};
-ghost use Rattle.traces.specs.Traces.{done, not_built, answered, is_refused};
-ghost use Rattle.traces.specs.Answers.{given_by, verdict_as};
+ghost use Rattle.downloads.specs.Received.{body_in, marks_of, copies_of, frame_said, close_said, SameLoans};
+ghost use Rattle.traces.specs.Traces.{done, not_built, refused, answered, is_refused};
+ghost use Rattle.traces.specs.Answers.{verdict_as};
 ghost use Rattle.traces.specs.Meaning.{answer_of, section_of, closed_in, stops_at};
+ghost use Rattle.traces.specs.Bench.{given_from};
 
 use crate::call::{Answer, Phase, Until};
 use blocks::BlockCipher;
-use downloads::arrivals::ArrivalRecord;
 use downloads::giving::give;
-use gost::table::SubstitutionTable;
+use downloads::received::Received;
+use gost::cipher::Gost;
 use refusals::Refusal;
 use sections::section::Section;
 use targets::Target;
 
-/// What a call answers that says nothing else.
-pub(crate) fn told(r: Result<(), Refusal>) -> Answer
-    ensures { answer_of result ≡ answered (outcome r) done }
-{
-    match r {
-        Ok(()) => Answer::Done,
-        Err(refusal) => Answer::Refused { refusal },
+impl From<Refusal> for Answer {
+    ghost from_gives = { λ e a. answer_of a ≡ refused (code_of e) };
+
+    fn from(refusal: Refusal) -> Answer {
+        Answer::Refused { refusal }
     }
 }
 
-impl Until {
-    /// Whether it is at the first refusal.
-    pub(crate) fn stops(self) -> bool
-        ensures { result ≡ stops_at self }
-    {
-        match self {
-            Until::End => false,
-            Until::Refusal => true,
+/// What a call answers that says nothing else.
+impl From<Result<(), Refusal>> for Answer {
+    ghost from_gives = { λ r a. answer_of a ≡ answered (outcome r) done };
+
+    fn from(said: Result<(), Refusal>) -> Answer {
+        match said {
+            Ok(()) => Answer::Done,
+            Err(refusal) => refusal.into(),
         }
     }
 }
 
 impl Answer {
-    /// Whether a trace that stops at a refusal stops at this answer.
-    pub(crate) fn halts(&self, stops: bool) -> bool
-        ensures { result ≡ (stops && is_refused (answer_of self.now)) }
+    /// Whether a trace ends at this answer.
+    pub(crate) fn halts(&self, until: Until) -> bool
+        ensures { result ≡ (stops_at until && is_refused (answer_of self.now)) }
+    {
+        matches!(until, Until::Refusal) && matches!(self, Answer::Refused { .. })
+    }
+}
+
+impl Phase {
+    /// The section of a download.
+    pub(crate) fn section(&self) -> Section
+        ensures { meaning_of result ≡ section_of self.now }
     {
         match self {
-            Answer::Refused { refusal: _ } => stops,
-            _ => false,
+            Phase::Receiving(state) => state.section(),
+            Phase::Closed(state) => state.section(),
         }
     }
 }
@@ -62,62 +69,46 @@ pub(crate) struct Moved {
     pub(crate) answer: Answer,
 }
 
+impl Moved {
+    pub(crate) fn new(phase: Phase, answer: Answer) -> Moved
+        ensures phase { result.phase ≡ phase }
+        ensures answer { result.answer ≡ answer }
+    {
+        Moved { phase, answer }
+    }
+}
+
 /// A frame, if the download is receiving.
-pub(crate) fn on_frame(
-    phase: Phase,
-    body: &mut [u8],
-    arrivals: &mut ArrivalRecord,
-    first: u32,
-    bytes: &[u8],
-) -> Moved
-    ensures answer { answer_of result.answer ≡ (if closed_in phase then not_built else answered (frame_answer (section_of phase) (length body.old) (length (marks_in arrivals.old)) (copies_in (block_of (section_of phase)) body.old (marks_in arrivals.old)) first bytes.now) done) }
+pub(crate) fn on_frame(phase: Phase, received: &mut Received<'_>, first: u32, bytes: &[u8]) -> Moved
+    ensures answer { answer_of result.answer ≡ (if closed_in phase then not_built else answered (frame_said (section_of phase) received.old first bytes.now) done) }
     ensures phase { (section_of result.phase ≡ section_of phase) × (closed_in result.phase ≡ closed_in phase) }
-    ensures body { body.new ≡ (if closed_in phase then body.old else unless (frame_answer (section_of phase) (length body.old) (length (marks_in arrivals.old)) (copies_in (block_of (section_of phase)) body.old (marks_in arrivals.old)) first bytes.now) body.old (body_after (block_of (section_of phase)) first bytes.now body.old)) }
-    ensures arrivals { marks_in arrivals.new ≡ (if closed_in phase then marks_in arrivals.old else unless (frame_answer (section_of phase) (length body.old) (length (marks_in arrivals.old)) (copies_in (block_of (section_of phase)) body.old (marks_in arrivals.old)) first bytes.now) (marks_in arrivals.old) (marks_after (block_of (section_of phase)) first bytes.now (marks_in arrivals.old))) }
-    ensures copies { copies_in (block_of (section_of phase)) body.new (marks_in arrivals.new) ≡ (if closed_in phase then copies_in (block_of (section_of phase)) body.old (marks_in arrivals.old) else unless (frame_answer (section_of phase) (length body.old) (length (marks_in arrivals.old)) (copies_in (block_of (section_of phase)) body.old (marks_in arrivals.old)) first bytes.now) (copies_in (block_of (section_of phase)) body.old (marks_in arrivals.old)) (with_frame (block_of (section_of phase)) (copies_in (block_of (section_of phase)) body.old (marks_in arrivals.old)) first bytes.now)) }
+    ensures same { SameLoans received.old received.new }
+    ensures body { body_in received.new ≡ (if closed_in phase then body_in received.old else unless (frame_said (section_of phase) received.old first bytes.now) (body_in received.old) (body_after (block_of (section_of phase)) first bytes.now (body_in received.old))) }
+    ensures arrivals { marks_of received.new ≡ (if closed_in phase then marks_of received.old else unless (frame_said (section_of phase) received.old first bytes.now) (marks_of received.old) (marks_after (block_of (section_of phase)) first bytes.now (marks_of received.old))) }
+    ensures copies { copies_of (block_of (section_of phase)) received.new ≡ (if closed_in phase then copies_of (block_of (section_of phase)) received.old else unless (frame_said (section_of phase) received.old first bytes.now) (copies_of (block_of (section_of phase)) received.old) (with_frame (block_of (section_of phase)) (copies_of (block_of (section_of phase)) received.old) first bytes.now)) }
 {
     match phase {
-        Phase::Closed(state) => Moved {
-            phase: Phase::Closed(state),
-            answer: Answer::NotBuilt,
-        },
-        Phase::Receiving(state) => match state.take_frame(body, arrivals, first, bytes) {
-            Ok(state) => Moved {
-                phase: Phase::Receiving(state),
-                answer: Answer::Done,
-            },
-            Err(refused) => Moved {
-                phase: Phase::Receiving(refused.state),
-                answer: Answer::Refused {
-                    refusal: refused.refusal,
-                },
-            },
-        },
+        Phase::Closed(state) => Moved::new(Phase::Closed(state), Answer::NotBuilt),
+        Phase::Receiving(state) => {
+            match state.take_frame(received, first, bytes) {
+                Ok(state) => Moved::new(Phase::Receiving(state), Answer::Done),
+                Err(e) => Moved::new(Phase::Receiving(e.state), e.refusal.into()),
+            }
+        }
     }
 }
 
 /// Closing, if the download is receiving.
-pub(crate) fn on_close(phase: Phase, body: &[u8], arrivals: &ArrivalRecord) -> Moved
-    ensures answer { answer_of result.answer ≡ (if closed_in phase then not_built else answered (close_answer (section_of phase) (length body.now) (length (marks_in arrivals.now)) (copies_in (block_of (section_of phase)) body.now (marks_in arrivals.now))) done) }
+pub(crate) fn on_close(phase: Phase, received: &Received<'_>) -> Moved
+    ensures answer { answer_of result.answer ≡ (if closed_in phase then not_built else answered (close_said (section_of phase) received.now) done) }
     ensures section { section_of result.phase ≡ section_of phase }
-    ensures closed { closed_in result.phase ≡ (if closed_in phase then true else unless (close_answer (section_of phase) (length body.now) (length (marks_in arrivals.now)) (copies_in (block_of (section_of phase)) body.now (marks_in arrivals.now))) false true) }
+    ensures closed { closed_in result.phase ≡ (if closed_in phase then true else unless (close_said (section_of phase) received.now) false true) }
 {
     match phase {
-        Phase::Closed(state) => Moved {
-            phase: Phase::Closed(state),
-            answer: Answer::NotBuilt,
-        },
-        Phase::Receiving(state) => match state.close(body, arrivals) {
-            Ok(state) => Moved {
-                phase: Phase::Closed(state),
-                answer: Answer::Done,
-            },
-            Err(refused) => Moved {
-                phase: Phase::Receiving(refused.state),
-                answer: Answer::Refused {
-                    refusal: refused.refusal,
-                },
-            },
+        Phase::Closed(state) => Moved::new(Phase::Closed(state), Answer::NotBuilt),
+        Phase::Receiving(state) => match state.close(received) {
+            Ok(state) => Moved::new(Phase::Closed(state), Answer::Done),
+            Err(e) => Moved::new(Phase::Receiving(e.state), e.refusal.into()),
         },
     }
 }
@@ -129,14 +120,8 @@ pub(crate) fn on_reopen(phase: Phase) -> Moved
     ensures closed { closed_in result.phase ≡ false }
 {
     match phase {
-        Phase::Closed(state) => Moved {
-            phase: Phase::Receiving(state.reopen()),
-            answer: Answer::Done,
-        },
-        Phase::Receiving(state) => Moved {
-            phase: Phase::Receiving(state),
-            answer: Answer::NotBuilt,
-        },
+        Phase::Closed(state) => Moved::new(Phase::Receiving(state.reopen()), Answer::Done),
+        Phase::Receiving(state) => Moved::new(Phase::Receiving(state), Answer::NotBuilt),
     }
 }
 
@@ -144,33 +129,22 @@ pub(crate) fn on_reopen(phase: Phase) -> Moved
 pub(crate) fn on_verify<T: Target>(
     phase: Phase,
     target: &T,
-    table: &SubstitutionTable,
-    tag_key: &[u32; 8],
+    tag: Gost<'_>,
     page: &mut [u8],
 ) -> Moved
-    ensures answer { answer_of result.answer ≡ (if closed_in phase then verdict_as (verify_answer (rows_of table.now) tag_key.now (section_of phase) (T.Target.state target.now) (length page.old)) else not_built) }
+    ensures answer { answer_of result.answer ≡ (if closed_in phase then verdict_as (verify_answer (rows_in tag.entry) (words_in tag.entry) (section_of phase) (T.Target.state target.now) (length page.old)) else not_built) }
     ensures section { section_of result.phase ≡ section_of phase }
     ensures closed { closed_in result.phase ≡ closed_in phase }
-    ensures page { page.new ≡ (if closed_in phase then read_after (rows_of table.now) tag_key.now (section_of phase) (T.Target.state target.now) page.old else page.old) }
+    ensures page { page.new ≡ (if closed_in phase then read_after (rows_in tag.entry) (words_in tag.entry) (section_of phase) (T.Target.state target.now) page.old else page.old) }
 {
     match phase {
-        Phase::Receiving(state) => Moved {
-            phase: Phase::Receiving(state),
-            answer: Answer::NotBuilt,
-        },
-        Phase::Closed(state) => match state.verify(target, table, tag_key, page) {
-            Ok(verified) => Moved {
-                phase: Phase::Closed(verified.state),
-                answer: Answer::Verdict {
-                    verdict: verified.verdict,
-                },
-            },
-            Err(refused) => Moved {
-                phase: Phase::Closed(refused.state),
-                answer: Answer::Refused {
-                    refusal: refused.refusal,
-                },
-            },
+        Phase::Receiving(state) => Moved::new(Phase::Receiving(state), Answer::NotBuilt),
+        Phase::Closed(state) => match state.verify(target, tag, page) {
+            Ok(verified) => {
+                let verdict = verified.verdict;
+                Moved::new(Phase::Closed(verified.state), Answer::Verdict { verdict })
+            }
+            Err(e) => Moved::new(Phase::Closed(e.state), e.refusal.into()),
         },
     }
 }
@@ -179,16 +153,15 @@ pub(crate) fn on_verify<T: Target>(
 pub(crate) fn on_give<C: BlockCipher>(
     section: &Section,
     cipher: &C,
-    body: &[u8],
-    arrivals: &ArrivalRecord,
+    received: &Received<'_>,
     i: u32,
 ) -> Answer
-    ensures { answer_of result ≡ given_by (C.BlockCipher.map cipher.now) (meaning_of section.now) (length body.now) (length (marks_in arrivals.now)) (copies_in (block_of (meaning_of section.now)) body.now (marks_in arrivals.now)) i }
+    ensures { answer_of result ≡ given_from (C.BlockCipher.map cipher.now) (meaning_of section.now) received.now i }
 {
     let mut block = [0; 16];
     let n = section.cipher.block_length();
-    match give(section, cipher, body, arrivals, i, &mut block[0..n]) {
+    match give(section, cipher, received, i, &mut block[0..n]) {
         Ok(count) => Answer::Plain { block, count },
-        Err(refusal) => Answer::Refused { refusal },
+        Err(refusal) => refusal.into(),
     }
 }

@@ -1,7 +1,8 @@
 //! The calls of a trace, and what they answer.
 
+use downloads::received::Received;
 use downloads::state::{Closed, Receiving, Verdict};
-use gost::table::SubstitutionTable;
+use gost::cipher::Gost;
 use refusals::Refusal;
 
 /// A call of a trace.
@@ -39,13 +40,15 @@ pub enum Phase {
     Closed(Closed),
 }
 
-/// What a download is deciphered and verified with: the cipher with its key, and the table and the
-/// words of the tag key.
+/// What a trace is made with, the cipher with its key and the cipher with the tag key, and what is lent
+/// to its calls: the target, what has been received, and a page buffer.
 #[derive(Drop)]
-pub struct Keys<'a, C> {
+pub struct Bench<'a, C, T> {
     pub cipher: &'a C,
-    pub table: &'a SubstitutionTable,
-    pub tag_key: &'a [u32; 8],
+    pub tag: Gost<'a>,
+    pub target: &'a mut T,
+    pub received: Received<'a>,
+    pub page: &'a mut [u8],
 }
 
 /// Where a trace ends.

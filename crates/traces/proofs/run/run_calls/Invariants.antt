@@ -1,20 +1,13 @@
-use Rattle.std.proofs.Common.{◌≡◌, ◌-◌, ◌≤◌, length, drop}
-use Rattle.gost.specs.Cipher.{rows_of}
-use Rattle.downloads.specs.Marks.{marks_in}
-use Rattle.traces.specs.Meaning.{section_of, closed_in}
-use Rattle.traces.specs.Buffers.{buffers}
-use Rattle.traces.specs.Runs.{setting, stands_by}
-use Rattle.traces.proofs.Ran.{Ran, Halts}
+use Rattle.std.proofs.Common.{◌≡◌, drop}
+use Rattle.traces.specs.Meaning.{section_of, closed_in, stops_at}
+use Rattle.traces.specs.Bench.{SameBench, setting_on, stands_on, buffers_on}
+use Rattle.traces.proofs.Ran.{Ran, Quiet}
 use Rattle.traces.proofs.run.run_calls.Given as goal
 
 abbrev pub invariant-loop-made : goal.invariant-loop-made
 invariant-loop-made g l =
     let e = l.initial in
     let s = section_of e.phase in
-    Halts l.stops l.halted l.answers l.made × (drop l.made l.answers ≡ drop l.made e.answers) × (l.made ≤ length l.calls) × Ran (setting (g.C.BlockCipher.map e.keys.cipher.now) s (rows_of e.keys.table.now) e.keys.tag_key.now (length e.page))
-    (stands_by s e.body (marks_in e.arrivals) (closed_in e.phase) (g.T.Target.state e.target))
-    (buffers e.body (marks_in e.arrivals) e.page) e.calls l.answers l.made
-    (section_of l.phase) l.body (marks_in l.arrivals) l.page (closed_in l.phase) (g.T.Target.state l.target)
-
-abbrev pub decreases-loop-made : goal.decreases-loop-made
-decreases-loop-made g l = length l.calls - l.made
+    Quiet (stops_at l.fn.until) l.answers l.made × (drop l.made l.answers ≡ drop l.made e.answers) × (section_of l.phase ≡ s) × SameBench e.bench l.bench
+    × Ran (setting_on g.C.BlockCipher.map s e.bench) (stands_on g.T.Target.state s (closed_in e.phase) e.bench) (buffers_on e.bench) e.calls l.answers l.made
+    (stands_on g.T.Target.state s (closed_in l.phase) l.bench) (buffers_on l.bench)

@@ -1,0 +1,63 @@
+-- A bench: what the calls of a trace on it share, where the trace stands, and what its buffers hold.
+use Rattle.std.specs.Prelude.{◌≡◌, ℕ, Bool, true, List, length, replicate, Result}
+use Rattle.blocks.specs.Ciphers.{BlockMap}
+use Rattle.gost.specs.Keyed.{rows_in, words_in}
+use Rattle.sections.specs.Entries.{Described}
+use Rattle.targets.specs.State.{TargetState}
+use Rattle.downloads.specs.declared.arrivals.Arrival.TheVariants.{Missing}
+use Rattle.downloads.specs.Frames.{block_of, blocks_of}
+use Rattle.downloads.specs.declared.received.Received.{Received}
+use Rattle.traces.specs.declared.call.Bench.{Bench}
+use Rattle.downloads.specs.Received.{body_in, marks_of, copies_of, stores, SameLoans}
+use Rattle.traces.specs.Traces.{Setting, Call, Answer, Standing, step, answer_to, run, answers_of}
+use Rattle.traces.specs.Answers.{given_by}
+use Rattle.traces.specs.Buffers.{Buffers, buffers, after, buffers_after}
+use Rattle.traces.specs.Runs.{setting, stands_by}
+
+-- what giving a block is answered, of what has been received
+abbrev pub given_from : BlockMap → Described → Received → ℕ → Answer
+given_from c s r i = given_by c s (length (body_in r)) (length (marks_of r)) (copies_of (block_of s) r) i
+
+-- ---- a bench, with the meaning of its cipher and of its target
+
+-- the same cipher and keys, and the same target and buffers, as long as they were
+pub record SameBench {C T : Type 0} (b b' : Bench C T) : Type 0 where
+  pub cipher : b'.cipher.now ≡ b.cipher.now
+  pub tag : b'.tag ≡ b.tag
+  pub target : b'.target.ghost_name ≡ b.target.ghost_name
+  pub received : SameLoans b.received b'.received
+  pub page : b'.page.ghost_name ≡ b.page.ghost_name
+  pub body_long : length (body_in b'.received) ≡ length (body_in b.received)
+  pub marks_long : length (marks_of b'.received) ≡ length (marks_of b.received)
+  pub page_long : length b'.page.now ≡ length b.page.now
+
+abbrev pub setting_on : {C T : Type 0} → (C → BlockMap) → Described → Bench C T → Setting
+setting_on map s b = setting (map b.cipher.now) s (rows_in b.tag) (words_in b.tag) (length b.page.now)
+
+abbrev pub stands_on : {C T : Type 0} → (T → TargetState) → Described → Bool → Bench C T → Standing
+stands_on state s closed b = stands_by s (body_in b.received) (marks_of b.received) closed (state b.target.now)
+
+abbrev pub buffers_on : {C T : Type 0} → Bench C T → Buffers
+buffers_on b = buffers (body_in b.received) (marks_of b.received) b.page.now
+
+-- what the buffers hold once a section is opened: no block has arrived
+abbrev pub cleared_on : {C T : Type 0} → Described → Bench C T → Buffers
+cleared_on s b = buffers (body_in b.received) (replicate (blocks_of s) Missing) b.page.now
+
+-- the cipher, the body and the record are a section's
+pub record Serves {C T : Type 0} (map : C → BlockMap) (s : Described) (b : Bench C T) : Type 0 where
+  pub sized : (map b.cipher.now).size ≡ block_of s
+  pub stored : stores s b.received ≡ true
+
+-- ---- calls that are made at s on buffers b, and lead to u and v
+
+pub record Performs (w : Setting) (s u : Standing) (b v : Buffers) (c : Call) (a : Answer) : Type 0 where
+  pub answer : a ≡ answer_to w s c
+  pub stands : u ≡ step w s c
+  pub holds : v ≡ after w s b c
+
+-- one after the other
+pub record PerformsAll (w : Setting) (s u : Standing) (b v : Buffers) (calls : List Call) (answers : List Answer) : Type 0 where
+  pub answers_are : answers ≡ answers_of w s calls
+  pub stands : u ≡ run w s calls
+  pub holds : v ≡ buffers_after w s b calls
