@@ -24,6 +24,14 @@ impl Source {
             Source::Script => script,
         }
     }
+
+    /// What it holds is refused.
+    pub(crate) fn refused(self, refusal: Refusal) -> Fault {
+        Fault::Refused {
+            file: self,
+            refusal,
+        }
+    }
 }
 
 /// Why a script is not run.
@@ -40,16 +48,6 @@ pub enum Fault {
     /// The section is not listed.
     NoSection { refusal: Refusal },
     Memory,
-}
-
-impl Fault {
-    /// What was made of a file, or that it was refused.
-    pub(crate) fn of_file<T>(file: Source, r: Result<T, Refusal>) -> Result<T, Fault> {
-        match r {
-            Ok(made) => Ok(made),
-            Err(refusal) => Err(Fault::Refused { file, refusal }),
-        }
-    }
 }
 
 impl From<AllocError> for Fault {

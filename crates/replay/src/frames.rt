@@ -8,24 +8,11 @@ use scripts::order::{FrameLine, Order, Step};
 use std::alloc::Global;
 use traces::call::Call;
 
-/// A body from a byte on; nothing past its end.
-fn from_byte(body: &[u8], from: usize) -> &[u8]
-    ensures { result.now ≡ drop from body.now }
-{
-    if from >= body.len() {
-        return &[];
-    }
-    &body[from..]
-}
-
-/// The first bytes, or as many as there are.
-fn first_bytes(bytes: &[u8], count: usize) -> &[u8]
-    ensures { result.now ≡ take count bytes.now }
-{
-    if bytes.len() < count {
-        return bytes;
-    }
-    &bytes[..count]
+/// A step of a script, and the bytes of its frame; none where it has no frame.
+#[derive(Drop)]
+pub(crate) struct CutStep {
+    step: Step,
+    bytes: Vec<u8>,
 }
 
 /// So many blocks of a body from a block on, as far as the body goes.
@@ -33,7 +20,10 @@ fn part_of(body: &[u8], n: usize, first: u32, count: u32) -> &[u8]
     requires { n ≤ 16 }
     ensures { result.now ≡ take (n * count) (drop (n * first) body.now) }
 {
-    first_bytes(from_byte(body, n * first as usize), n * count as usize)
+    let from = body.len().min(n * first as usize);
+    let rest = &body[from..];
+    let long = rest.len().min(n * count as usize);
+    &rest[..long]
 }
 
 /// The bytes of a frame: those of the body, but for the bit that is flipped.
@@ -45,36 +35,31 @@ fn cut(heap: Global, body: &[u8], n: usize, frame: FrameLine, line: u32) -> Resu
     let Some(flip) = frame.flip else {
         return Ok(bytes);
     };
-    match bytes.get_mut(flip.byte as usize) {
-        Some(byte) => *byte ^= 1 << flip.bit,
-        None => {
-            return Err(Fault::Line {
-                line,
-                why: LineFault::NoSuchByte,
-            });
-        }
-    }
+    let why = LineFault::NoSuchByte;
+    let byte = bytes.get_mut(flip.byte as usize);
+    *byte.ok_or(Fault::Line { line, why })? ^= 1 << flip.bit;
     Ok(bytes)
 }
 
-/// The bytes of each step's frame; none where it has no frame.
+/// The steps, with their frames cut from a body.
 pub(crate) fn cut_frames(
     heap: Global,
     body: &[u8],
     n: usize,
     steps: &[Step],
-) -> Result<Vec<Vec<u8>>, Fault>
+) -> Result<Vec<CutStep>, Fault>
     requires { n ≤ 16 }
 {
-    let mut frames = Vec::new(heap);
+    let mut cuts = Vec::new(heap);
     for step in steps {
+        let step = *step;
         let bytes = match step.order.frame() {
             Some(frame) => cut(heap, body, n, frame, step.line)?,
             None => Vec::new(heap),
         };
-        frames.push(bytes)?;
+        cuts.push(CutStep { step, bytes })?;
     }
-    Ok(frames)
+    Ok(cuts)
 }
 
 /// The call that an order makes, with the bytes of its frame.
@@ -95,14 +80,10 @@ fn call_of<'a>(order: Order, bytes: &'a [u8]) -> Option<Call<'a>> {
 }
 
 /// The calls of the steps, in order. A lost frame makes none.
-pub(crate) fn calls_of<'a>(
-    heap: Global,
-    steps: &[Step],
-    frames: &'a [Vec<u8>],
-) -> Result<Vec<Call<'a>>, Fault> {
+pub(crate) fn calls_of<'a>(heap: Global, steps: &'a [CutStep]) -> Result<Vec<Call<'a>>, Fault> {
     let mut calls = Vec::new(heap);
-    for (step, frame) in steps.iter().zip(frames.iter()) {
-        if let Some(call) = call_of(step.order, frame.as_slice()) {
+    for CutStep { step, bytes } in steps {
+        if let Some(call) = call_of(step.order, bytes.as_slice()) {
             calls.push(call)?;
         }
     }

@@ -18,88 +18,97 @@ mod said;
 
 use description::describe;
 use fault::{Fault, Source};
-use replaying::{Setting, SpreadKeys, replay};
+use keys::SpreadKeys;
+use replaying::{Outcome, Setting, replay};
 use report::{say_fault, say_run};
 use scripts::reading::read_script;
 use sections::file::list;
 use std::process::ExitCode;
-use std::{env, fs};
+use std::{env, fs, io};
+
+/// Why the scripts were not all run.
+#[derive(Drop)]
+enum Stop {
+    /// One is not run, and the reason is printed.
+    Fault,
+    /// Something cannot be printed, or the arguments cannot be read.
+    Runtime { why: anyhow::Error },
+}
+
+impl From<io::Error> for Stop {
+    fn from(why: io::Error) -> Stop {
+        Stop::Runtime { why: why.into() }
+    }
+}
+
+impl From<anyhow::Error> for Stop {
+    fn from(why: anyhow::Error) -> Stop {
+        Stop::Runtime { why }
+    }
+}
 
 /// The bytes of a file.
 fn read(rt: &HostRuntime, script: &str, file: Source) -> Result<Vec<u8>, Fault> {
-    match fs::read(rt, file.name(script)) {
-        Ok(bytes) => Ok(bytes),
-        Err(why) => Err(Fault::Unread { file, why }),
-    }
+    fs::read(rt, file.name(script)).map_err(|why| Fault::Unread { file, why })
 }
 
 /// Reads the folder and a script.
 fn read_setting(rt: &HostRuntime, script: &str) -> Result<Setting, Fault> {
     let target = describe(read(rt, script, Source::Target)?.as_slice());
-    let target = Fault::of_file(Source::Target, target)?;
+    let target = target.map_err(|refusal| Source::Target.refused(refusal))?;
     let keys = SpreadKeys::spread(read(rt, script, Source::Keys)?.as_slice());
-    let keys = Fault::of_file(Source::Keys, keys)?;
+    let keys = keys.map_err(|refusal| Source::Keys.refused(refusal))?;
     let file = read(rt, script, Source::Download)?;
     let listing = list(file.as_slice(), target.page_length, target.page_count);
-    let listing = Fault::of_file(Source::Download, listing)?;
-    let Ok(text) = String::from_utf8(read(rt, script, Source::Script)?) else {
-        return Err(Fault::NoText);
-    };
+    let listing = listing.map_err(|refusal| Source::Download.refused(refusal))?;
+    let text = String::from_utf8(read(rt, script, Source::Script)?).map_err(|_| Fault::NoText)?;
     let script = read_script(rt.alloc(), text.as_str())?;
-    match listing.section(script.section) {
-        Ok(section) => Ok(Setting {
-            target,
-            keys,
-            file,
-            listing,
-            section,
-            script,
-        }),
-        Err(refusal) => Err(Fault::NoSection { refusal }),
-    }
+    let section = listing.section(script.section);
+    let section = section.map_err(|refusal| Fault::NoSection { refusal })?;
+    Ok(Setting {
+        target,
+        keys,
+        file,
+        listing,
+        section,
+        script,
+    })
 }
 
-/// Runs a script and prints what came of it; says whether it was run.
-fn run_script(rt: &HostRuntime, script: &str) -> anyhow::Result<bool> {
-    let setting = match read_setting(rt, script) {
-        Ok(setting) => setting,
+/// Runs a script.
+fn run_script(rt: &HostRuntime, script: &str) -> Result<(Setting, Outcome), Fault> {
+    let setting = read_setting(rt, script)?;
+    let outcome = replay(rt.alloc(), &setting)?;
+    Ok((setting, outcome))
+}
+
+/// Runs a script and prints what came of it, or why it is not run.
+fn say_script(rt: &HostRuntime, script: &str) -> Result<(), Stop> {
+    match run_script(rt, script) {
+        Ok((setting, outcome)) => Ok(say_run(rt, script, &setting, &outcome)?),
         Err(fault) => {
             say_fault(rt, script, &fault)?;
-            return Ok(false);
-        }
-    };
-    match replay(rt.alloc(), &setting) {
-        Ok(outcome) => {
-            say_run(rt, script, &setting, &outcome)?;
-            Ok(true)
-        }
-        Err(fault) => {
-            say_fault(rt, script, &fault)?;
-            Ok(false)
+            Err(Stop::Fault)
         }
     }
 }
 
-/// Runs the scripts that the arguments name, or `trace.txt`, up to the first that is not run; says
-/// whether all were.
-fn run_scripts(rt: &HostRuntime) -> anyhow::Result<bool> {
-    let mut named = false;
-    for script in env::args(rt)?.skip(1) {
-        named = true;
-        if !run_script(rt, script.as_str())? {
-            return Ok(false);
-        }
+/// Runs the scripts that the arguments name, or `trace.txt`, up to the first that is not run.
+fn say_scripts(rt: &HostRuntime) -> Result<(), Stop> {
+    let mut scripts = env::args(rt)?.skip(1).peekable();
+    if scripts.peek().is_none() {
+        return say_script(rt, "trace.txt");
     }
-    if named {
-        return Ok(true);
+    for script in scripts {
+        say_script(rt, script.as_str())?;
     }
-    run_script(rt, "trace.txt")
+    Ok(())
 }
 
 fn main(rt: HostRuntime) -> anyhow::Result<ExitCode> {
-    if run_scripts(&rt)? {
-        Ok(ExitCode::SUCCESS)
-    } else {
-        Ok(ExitCode::FAILURE)
+    match say_scripts(&rt) {
+        Ok(()) => Ok(ExitCode::SUCCESS),
+        Err(Stop::Fault) => Ok(ExitCode::FAILURE),
+        Err(Stop::Runtime { why }) => Err(why),
     }
 }

@@ -7,8 +7,14 @@ use sections::section::Section;
 use std::alloc::{AllocError, Global};
 use targets::Target;
 
+/// A mark of a map.
+pub(crate) trait Mark: Copy + PartialEq {
+    /// The letter that stands for it.
+    fn letter(self) -> char;
+}
+
 /// How a block of the body stands.
-#[derive(Clone, Copy)]
+#[derive(Clone, Copy, PartialEq, Eq)]
 pub enum BlockMark {
     Missing,
     /// It arrived as it stands in the file.
@@ -18,7 +24,7 @@ pub enum BlockMark {
 }
 
 /// What a page of the image holds.
-#[derive(Clone, Copy)]
+#[derive(Clone, Copy, PartialEq, Eq)]
 pub enum PageMark {
     /// Fill alone.
     Erased,
@@ -28,8 +34,8 @@ pub enum PageMark {
     Good,
 }
 
-impl BlockMark {
-    pub(crate) fn letter(self) -> char {
+impl Mark for BlockMark {
+    fn letter(self) -> char {
         match self {
             BlockMark::Missing => '.',
             BlockMark::Arrived => 'A',
@@ -38,8 +44,8 @@ impl BlockMark {
     }
 }
 
-impl PageMark {
-    pub(crate) fn letter(self) -> char {
+impl Mark for PageMark {
+    fn letter(self) -> char {
         match self {
             PageMark::Erased => '.',
             PageMark::Programmed => 'P',
@@ -57,8 +63,8 @@ pub(crate) fn mark_blocks(
     arrivals: &ArrivalRecord,
 ) -> Result<Vec<BlockMark>, AllocError> {
     let mut marks = Vec::new(heap);
-    let mut i = 0usize;
-    for (sent, held) in sent.chunks(n.max(1)).zip(held.chunks(n.max(1))) {
+    let blocks = sent.chunks(n.max(1)).zip(held.chunks(n.max(1)));
+    for (i, (sent, held)) in blocks.enumerate() {
         let mark = if !arrivals.has(i) {
             BlockMark::Missing
         } else if sent == held {
@@ -67,7 +73,6 @@ pub(crate) fn mark_blocks(
             BlockMark::Altered
         };
         marks.push(mark)?;
-        i = i.saturating_add(1);
     }
     Ok(marks)
 }
@@ -81,10 +86,7 @@ fn decipher_body<C: BlockCipher>(
 ) -> Result<Vec<u8>, AllocError> {
     let mut image = Vec::new(heap);
     let mut block = vec![in heap; 0u8; cipher.block_length()]?;
-    for i in 0..u32::MAX {
-        if image.len() >= body.len() {
-            break;
-        }
+    for (i, _) in (0..u32::MAX).zip(body.chunks(cipher.block_length().max(1))) {
         let part = block.as_mut_slice();
         let Ok(count) = decipher_block(cipher, section.mode, section.sync, body, i, part) else {
             break;
@@ -100,14 +102,12 @@ fn decipher_body<C: BlockCipher>(
 /// What a page holds that should hold a part of the image.
 fn page_mark(page: &[u8], part: &[u8], fill: u8) -> PageMark {
     if page.starts_with(part) {
-        return PageMark::Good;
+        PageMark::Good
+    } else if page.iter().all(|byte| *byte == fill) {
+        PageMark::Erased
+    } else {
+        PageMark::Programmed
     }
-    for byte in page {
-        if *byte != fill {
-            return PageMark::Programmed;
-        }
-    }
-    PageMark::Erased
 }
 
 /// Marks each page of the image on a target, against the file's own body.
@@ -122,13 +122,12 @@ pub(crate) fn mark_pages<C: BlockCipher, T: Target>(
     let long = target.page_length() as usize;
     let mut page = vec![in heap; 0u8; long]?;
     let mut marks = Vec::new(heap);
-    let mut number = u32::from(section.first_page);
-    for part in image.as_slice().chunks(long.max(1)) {
+    let numbers = u32::from(section.first_page)..u32::MAX;
+    for (number, part) in numbers.zip(image.as_slice().chunks(long.max(1))) {
         if target.read(number, page.as_mut_slice()).is_err() {
             break;
         }
         marks.push(page_mark(page.as_slice(), part, target.fill()))?;
-        number = number.saturating_add(1);
     }
     Ok(marks)
 }

@@ -6,45 +6,19 @@ use crate::marks::{BlockMark, PageMark, mark_blocks, mark_pages};
 use blocks::BlockCipher;
 use description::parts::{Description, TargetKind};
 use downloads::arrivals::ArrivalRecord;
+use downloads::received::Received;
 use gost::cipher::Gost;
-use kuznyechik::cipher::Kuznyechik;
-use refusals::{Layer, Reason, Refusal};
+use keys::SpreadKeys;
 use scripts::order::Script;
 use sections::kind::CipherKind;
 use sections::listing::Listing;
 use sections::section::Section;
 use std::alloc::Global;
 use targets::Target;
-use targets::kinds::{Flash, Ram};
-use traces::call::{Answer, Call, Keys, Phase, Until};
+use targets::kinds::{FlashKind, Kind, RamKind};
+use targets::paged::Paged;
+use traces::call::{Answer, Bench, Call, Phase, Until};
 use traces::run::run;
-
-/// The body key as each cipher takes it, and the tag key.
-#[derive(Clone, Copy)]
-pub struct SpreadKeys {
-    words: [u32; 8],
-    rounds: [[u8; 16]; 10],
-    tag: [u32; 8],
-}
-
-impl SpreadKeys {
-    /// Spreads keys of 64 bytes: the body key, then the tag key.
-    pub(crate) fn spread(bytes: &[u8]) -> Result<SpreadKeys, Refusal> {
-        if bytes.len() != 64 {
-            return Err(Refusal::new(Reason::WrongBuffer, 0, Layer::File));
-        }
-        let (body, tag) = bytes.split_at(32);
-        let mut keys = SpreadKeys {
-            words: [0; 8],
-            rounds: [[0; 16]; 10],
-            tag: [0; 8],
-        };
-        gost::key::spread_key(body, &mut keys.words)?;
-        kuznyechik::key::spread_key(body, &mut keys.rounds)?;
-        gost::key::spread_key(tag, &mut keys.tag)?;
-        Ok(keys)
-    }
-}
 
 /// What a script is run on.
 #[derive(Drop)]
@@ -69,10 +43,8 @@ pub struct Outcome {
 /// The section's body in the file. Listing has shown that it is there.
 fn own_body<'a>(file: &'a [u8], section: &Section) -> &'a [u8] {
     let from = section.offset as usize;
-    match file.get(from..from + section.length as usize) {
-        Some(body) => body,
-        None => &[],
-    }
+    file.get(from..from + section.length as usize)
+        .unwrap_or(&[])
 }
 
 /// Makes the calls by `traces::run::run`, with a cipher and on a target.
@@ -90,26 +62,28 @@ fn make_calls<'a, C: BlockCipher, T: Target>(
     let mut answers = vec![in heap; Answer::NotBuilt; calls.len()]?;
     let mut body = vec![in heap; 0u8; long]?;
     let mut page = vec![in heap; 0u8; setting.target.page_length as usize]?;
-    let record = ArrivalRecord::new((long + n - 1) / n);
-    let mut arrivals = Fault::of_file(Source::Download, record)?;
-    let keys = Keys {
+    let record = ArrivalRecord::new(long.div_ceil(n));
+    let mut arrivals = record.map_err(|refusal| Source::Download.refused(refusal))?;
+    let received = Received {
+        body: body.as_mut_slice(),
+        arrivals: &mut arrivals,
+    };
+    let mut bench = Bench {
         cipher,
-        table: &setting.target.table,
-        tag_key: &setting.keys.tag,
+        tag: Gost::new(&setting.target.table, &setting.keys.tag),
+        target,
+        received,
+        page: page.as_mut_slice(),
     };
     let progress = run(
         &setting.listing,
         setting.script.section,
-        &keys,
-        target,
-        body.as_mut_slice(),
-        &mut arrivals,
-        page.as_mut_slice(),
+        &mut bench,
         calls,
         answers.as_mut_slice(),
         Until::End,
     );
-    let progress = Fault::of_file(Source::Download, progress)?;
+    let progress = progress.map_err(|refusal| Source::Download.refused(refusal))?;
     Ok(Outcome {
         answers,
         closed: matches!(progress.phase, Phase::Closed(_)),
@@ -128,41 +102,39 @@ fn run_on<C: BlockCipher, T: Target>(
     let n = setting.section.cipher.block_length();
     let sent = own_body(setting.file.as_slice(), &setting.section);
     let steps = setting.script.steps.as_slice();
-    let frames = cut_frames(heap, sent, n, steps)?;
-    let calls = calls_of(heap, steps, frames.as_slice())?;
+    let cuts = cut_frames(heap, sent, n, steps)?;
+    let calls = calls_of(heap, cuts.as_slice())?;
     make_calls(heap, setting, cipher, target, sent, calls.as_slice())
 }
 
-/// Runs the script with a cipher, on a target of the kind that is described, first all fill.
-fn run_with<C: BlockCipher>(heap: Global, setting: &Setting, cipher: &C) -> Result<Outcome, Fault> {
+/// Runs the script with a cipher, on a target that is first all fill.
+fn run_with<C: BlockCipher, K: Kind>(
+    heap: Global,
+    setting: &Setting,
+    cipher: &C,
+) -> Result<Outcome, Fault> {
     let t = &setting.target;
     let size = t.page_length as usize * t.page_count as usize;
     let mut memory = vec![in heap; t.fill; size]?;
     let memory = memory.as_mut_slice();
-    match t.kind {
-        TargetKind::Flash => {
-            let made = Flash::new(memory, t.page_length, t.page_count, t.fill, &t.locked);
-            let mut flash = Fault::of_file(Source::Target, made)?;
-            run_on(heap, setting, cipher, &mut flash)
-        }
-        TargetKind::Ram => {
-            let made = Ram::new(memory, t.page_length, t.page_count, t.fill, &t.locked);
-            let mut ram = Fault::of_file(Source::Target, made)?;
-            run_on(heap, setting, cipher, &mut ram)
-        }
+    let made = Paged::<K>::new(memory, t.page_length, t.page_count, t.fill, &t.locked);
+    let mut target = made.map_err(|refusal| Source::Target.refused(refusal))?;
+    run_on(heap, setting, cipher, &mut target)
+}
+
+/// Runs the script with a cipher, on a target of the kind that is described.
+fn run_kind<C: BlockCipher>(heap: Global, setting: &Setting, cipher: &C) -> Result<Outcome, Fault> {
+    match setting.target.kind {
+        TargetKind::Flash => run_with::<C, FlashKind>(heap, setting, cipher),
+        TargetKind::Ram => run_with::<C, RamKind>(heap, setting, cipher),
     }
 }
 
 /// Runs the script with the cipher of its section.
 pub(crate) fn replay(heap: Global, setting: &Setting) -> Result<Outcome, Fault> {
+    let keys = &setting.keys;
     match setting.section.cipher {
-        CipherKind::Gost => {
-            let gost = Gost::new(&setting.target.table, &setting.keys.words);
-            run_with(heap, setting, &gost)
-        }
-        CipherKind::Kuznyechik => {
-            let kuznyechik = Kuznyechik::new(&setting.keys.rounds);
-            run_with(heap, setting, &kuznyechik)
-        }
+        CipherKind::Gost => run_kind(heap, setting, &keys.gost(&setting.target.table)),
+        CipherKind::Kuznyechik => run_kind(heap, setting, &keys.kuznyechik()),
     }
 }

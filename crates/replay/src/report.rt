@@ -1,13 +1,12 @@
 //! What is printed of a run.
 
 use crate::fault::Fault;
-use crate::marks::{BlockMark, PageMark};
+use crate::marks::{BlockMark, Mark, PageMark};
 use crate::meaning::Meaning;
 use crate::replaying::{Outcome, Setting};
-use crate::said::{Told, cipher_word, mode_word};
+use crate::said::Told;
 use scripts::order::{Order, Step};
 use sections::section::Section;
-use std::alloc::Global;
 use std::io;
 use traces::call::Answer;
 
@@ -16,11 +15,12 @@ const ROW: usize = 32;
 
 const GROUP: usize = 8;
 
-/// Places from the first to the last.
+/// A mark of a map, what is said of it, and the heading of its places if these are listed.
 #[derive(Clone, Copy)]
-struct Range {
-    first: usize,
-    last: usize,
+struct Legend<M> {
+    mark: M,
+    word: &'static str,
+    places: Option<&'static str>,
 }
 
 /// Prints the section that is downloaded, and where its image goes.
@@ -31,8 +31,8 @@ fn say_section(
     s: &Section,
     outcome: &Outcome,
 ) -> io::Result<()> {
-    let cipher = cipher_word(s.cipher);
-    let mode = mode_word(s.mode);
+    let cipher = s.cipher;
+    let mode = s.mode;
     let length = s.length;
     let blocks = outcome.blocks.len().saturating_sub(1);
     let pages = outcome.pages.len().saturating_sub(1);
@@ -45,86 +45,59 @@ fn say_section(
 
 /// Prints a line for each step: the line of the script, the order and its answer.
 fn say_steps(rt: &HostRuntime, steps: &[Step], answers: &[Answer]) -> io::Result<()> {
-    let mut made = 0usize;
+    let mut answers = answers.iter().copied();
     for step in steps {
         let Step { line, order } = *step;
-        let mut answer = None;
-        if !matches!(order, Order::Lost(_)) {
-            answer = answers.get(made).copied();
-            made = made.saturating_add(1);
-        }
+        let answer = match order {
+            Order::Lost(_) => None,
+            _ => answers.next(),
+        };
         let told = Told { order, answer };
         println!(rt; "{line} {order}: {told}")?;
     }
     Ok(())
 }
 
-/// Prints the letters of a map in numbered rows.
-fn say_map(rt: &HostRuntime, letters: &[char]) -> io::Result<()> {
-    let mut from = 0usize;
-    for row in letters.chunks(ROW) {
+/// Prints a map in numbered rows.
+fn say_map<M: Mark>(rt: &HostRuntime, marks: &[M]) -> io::Result<()> {
+    for (i, row) in marks.chunks(ROW).enumerate() {
+        let from = i.saturating_mul(ROW);
         print!(rt; "{from:>5}:")?;
         for group in row.chunks(GROUP) {
             print!(rt; " ")?;
-            for letter in group {
+            for mark in group {
+                let letter = mark.letter();
                 print!(rt; "{letter}")?;
             }
         }
         println!(rt; "")?;
-        from = from.saturating_add(ROW);
     }
     Ok(())
 }
 
-/// How often a letter stands in a map.
-fn count(letters: &[char], wanted: char) -> u32 {
-    let mut found = 0u32;
-    for letter in letters {
-        if *letter == wanted {
-            found = found.saturating_add(1);
+/// Prints the places at which a mark stands in a map; nothing if it stands nowhere.
+fn say_places<M: Mark>(
+    rt: &HostRuntime,
+    heading: &str,
+    marks: &[M],
+    wanted: M,
+) -> anyhow::Result<()> {
+    let mut places = Vec::new(rt.alloc());
+    for (i, mark) in marks.iter().enumerate() {
+        if *mark == wanted {
+            places.push(i)?;
         }
     }
-    found
-}
-
-/// The places at which a letter stands in a map, as ranges.
-fn ranges(heap: Global, letters: &[char], wanted: char) -> anyhow::Result<Vec<Range>> {
-    let mut found = Vec::new(heap);
-    let mut open: Option<Range> = None;
-    let mut at = 0usize;
-    for letter in letters {
-        if *letter == wanted {
-            let first = match open {
-                Some(range) => range.first,
-                None => at,
-            };
-            open = Some(Range { first, last: at });
-        } else if let Some(range) = open {
-            found.push(range)?;
-            open = None;
-        }
-        at = at.saturating_add(1);
-    }
-    if let Some(range) = open {
-        found.push(range)?;
-    }
-    Ok(found)
-}
-
-/// Prints the places at which a letter stands in a map; nothing if it stands nowhere.
-fn say_places(rt: &HostRuntime, name: &str, letters: &[char], wanted: char) -> anyhow::Result<()> {
-    let found = ranges(rt.alloc(), letters, wanted)?;
-    if found.is_empty() {
+    if places.is_empty() {
         return Ok(());
     }
-    print!(rt; "{name}:")?;
+    print!(rt; "{heading}:")?;
     let mut between = "";
-    for range in found.iter() {
-        let Range { first, last } = *range;
-        if first == last {
-            print!(rt; "{between} {first}")?;
-        } else {
-            print!(rt; "{between} {first} to {last}")?;
+    for run in places.as_slice().chunk_by(|a, b| a.saturating_add(1) == *b) {
+        match run {
+            [first, .., last] => print!(rt; "{between} {first} to {last}")?,
+            [place] => print!(rt; "{between} {place}")?,
+            [] => {}
         }
         between = ",";
     }
@@ -132,38 +105,74 @@ fn say_places(rt: &HostRuntime, name: &str, letters: &[char], wanted: char) -> a
     Ok(())
 }
 
+/// Prints how often each mark stands in a map, the map, and the places that are listed.
+fn say_marks<M: Mark>(
+    rt: &HostRuntime,
+    name: &str,
+    marks: &[M],
+    legends: &[Legend<M>],
+) -> anyhow::Result<()> {
+    print!(rt; "{name}:")?;
+    let mut between = "";
+    for legend in legends {
+        let count = marks.iter().filter(|mark| **mark == legend.mark).count();
+        let word = legend.word;
+        let letter = legend.mark.letter();
+        print!(rt; "{between} {count} {word} ({letter})")?;
+        between = ",";
+    }
+    println!(rt; "")?;
+    say_map(rt, marks)?;
+    for legend in legends {
+        if let Some(heading) = legend.places {
+            say_places(rt, heading, marks, legend.mark)?;
+        }
+    }
+    Ok(())
+}
+
 /// Prints the map of the blocks.
 fn say_blocks(rt: &HostRuntime, marks: &[BlockMark]) -> anyhow::Result<()> {
-    let mut letters = Vec::new(rt.alloc());
-    for mark in marks {
-        letters.push(mark.letter())?;
-    }
-    let letters = letters.as_slice();
-    let arrived = count(letters, 'A');
-    let altered = count(letters, 'X');
-    let missing = count(letters, '.');
-    println!(rt; "blocks: {arrived} arrived (A), {altered} altered (X), {missing} missing (.)")?;
-    say_map(rt, letters)?;
-    say_places(rt, "altered blocks", letters, 'X')?;
-    say_places(rt, "missing blocks", letters, '.')
+    let legends = [
+        Legend {
+            mark: BlockMark::Arrived,
+            word: "arrived",
+            places: None,
+        },
+        Legend {
+            mark: BlockMark::Altered,
+            word: "altered",
+            places: Some("altered blocks"),
+        },
+        Legend {
+            mark: BlockMark::Missing,
+            word: "missing",
+            places: Some("missing blocks"),
+        },
+    ];
+    say_marks(rt, "blocks", marks, &legends)
 }
 
 /// Prints the map of the image pages.
 fn say_pages(rt: &HostRuntime, marks: &[PageMark]) -> anyhow::Result<()> {
-    let mut letters = Vec::new(rt.alloc());
-    for mark in marks {
-        letters.push(mark.letter())?;
-    }
-    let letters = letters.as_slice();
-    let good = count(letters, 'G');
-    let other = count(letters, 'P');
-    let erased = count(letters, '.');
-    println!(rt;
-        "image pages: {good} good (G), {other} programmed, not good (P), {erased} erased (.)"
-    )?;
-    say_map(rt, letters)?;
-    say_places(rt, "image pages programmed, not good", letters, 'P')?;
-    say_places(rt, "image pages erased", letters, '.')
+    let legends = [
+        Legend {
+            mark: PageMark::Good,
+            word: "good",
+            places: None,
+        },
+        Legend {
+            mark: PageMark::Programmed,
+            word: "programmed, not good",
+            places: Some("image pages programmed, not good"),
+        },
+        Legend {
+            mark: PageMark::Erased,
+            word: "erased",
+            places: Some("image pages erased"),
+        },
+    ];
+    say_marks(rt, "image pages", marks, &legends)
 }
 
 /// Prints a run.

@@ -2,29 +2,10 @@
 
 use crate::meaning::Meaning;
 use downloads::state::Verdict;
-use modes::mode::Mode;
 use refusals::{Reason, Refusal};
 use scripts::order::Order;
-use sections::kind::CipherKind;
 use std::fmt;
 use traces::call::Answer;
-
-/// The word for a cipher.
-pub(crate) fn cipher_word(cipher: CipherKind) -> &'static str {
-    match cipher {
-        CipherKind::Gost => "gost",
-        CipherKind::Kuznyechik => "kuznyechik",
-    }
-}
-
-/// The word for a mode.
-pub(crate) fn mode_word(mode: Mode) -> &'static str {
-    match mode {
-        Mode::Codebook => "codebook",
-        Mode::Counter => "counter",
-        Mode::Feedback => "feedback",
-    }
-}
 
 /// What is said of a call that was made, and says nothing else.
 fn done_text(order: Order) -> &'static str {
