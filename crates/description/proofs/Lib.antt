@@ -1,5 +1,4 @@
 pub mod Steps
-pub mod Spelled
 pub mod Ahead
 pub mod Marks
 pub mod Numbers

@@ -25,12 +25,7 @@ sound_given (None ∷ rows) zero row all h = h
 sound_given (Some r ∷ rows) zero row all h = (and_parts (narrow_row r) (list_all sound_row rows) all).0
 sound_given (r ∷ rows) (suc i) row all h = sound_given rows i row (and_parts (sound_row r) (list_all sound_row rows) all).1 h
 
--- the rows, where each was given
-pub all_given : (rows : Rows) → all_rows (map Some rows) ≡ Some rows
-all_given [] = refl
-all_given (row ∷ rows) = ap (option_map (λ rs. row ∷ rs)) (all_given rows)
-
--- and where one was not
+-- the rows, where one was not given
 pub one_missing : (rows : List (Option (List ℕ))) (i : ℕ) → i < length rows → is_some (get_or rows i None) ≡ false → all_rows rows ≡ None
 one_missing [] i l e = absurd (omega arith)
 one_missing (None ∷ rows) i l e = refl

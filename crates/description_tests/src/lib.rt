@@ -8,7 +8,7 @@
 #[cfg(test)]
 mod tests {
     use description::describe;
-    use description::parts::{Description, TargetKind};
+    use description::parts::TargetKind;
     use std::alloc::Global;
     use std::process::Abort;
     use std::test::Fail;
@@ -44,17 +44,10 @@ box 8 00000 00001 2 3 4 5 6 7 8 9 10 11 12 13 14 00015
 
     // Sees of each text that it is refused so: its number and its place.
     fn all(rt: &impl Abort, cases: &[(&[u8], u8, u32)]) -> Result<(), Fail> {
-        for case in cases {
-            refused(rt, case.0, case.1, case.2)?;
+        for &(text, number, place) in cases {
+            refused(rt, text, number, place)?;
         }
         Ok(())
-    }
-
-    fn accepted(text: &[u8]) -> Result<Description, Fail> {
-        match describe(text) {
-            Ok(d) => Ok(d),
-            Err(_) => Err(Fail::new("refused")),
-        }
     }
 
     // The two texts, one after the other.
@@ -255,17 +248,26 @@ box 8 00000 00001 2 3 4 5 6 7 8 9 10 11 12 13 14 00015
         let seven = joined(rt.alloc(), PARTS, ROWS_2_TO_8)?;
         refused(&rt, &seven, 3, 5)?;
         let eight = joined(rt.alloc(), &seven, ROW_1)?;
-        let plain = accepted(&eight)?;
+        let plain = describe(&eight)?;
         assert_eq!(rt; plain.kind, TargetKind::Flash);
         assert_eq!(rt; plain.page_length, 512);
         assert_eq!(rt; plain.page_count, 32);
         assert_eq!(rt; plain.fill, 255);
         assert!(rt; !plain.locked[7]);
         let with_lock = joined(rt.alloc(), &eight, b"lock 7")?;
-        let locked = accepted(&with_lock)?;
+        let locked = describe(&with_lock)?;
         assert!(rt; locked.locked[7]);
         assert!(rt; !locked.locked[6]);
         let repeated = joined(rt.alloc(), &eight, ROW_1)?;
         refused(&rt, &repeated, 2, 13)
+    }
+
+    #[test]
+    fn a_kind_is_printed(rt: HostRuntime) -> Result<(), Fail> {
+        for (kind, word) in [(TargetKind::Flash, "flash"), (TargetKind::Ram, "ram")] {
+            let text = format!(in rt.alloc(); "{kind}")?;
+            assert!(rt; text.as_str() == word);
+        }
+        Ok(())
     }
 }

@@ -46,10 +46,7 @@ box 8 0 0 0 0 0 0 0 0 0 0 0 0 0 0 0 0
     }
 
     fn accepted(image: &[u8]) -> Result<Report, Fail> {
-        match report_on(TARGET, &[0; 64], image) {
-            Ok(report) => Ok(report),
-            Err(_) => Err(Fail::new("refused")),
-        }
+        Ok(report_on(TARGET, &[0; 64], image)?)
     }
 
     #[test]
@@ -101,9 +98,7 @@ box 8 0 0 0 0 0 0 0 0 0 0 0 0 0 0 0 0
     fn the_body_key_is_not_the_tag_key(rt: HostRuntime) -> Result<(), Fail> {
         let mut keys = [0; 64];
         keys[31] = 1;
-        let Ok(same) = report_on(TARGET, &keys, &IMAGE) else {
-            return Err(Fail::new("refused"));
-        };
+        let same = report_on(TARGET, &keys, &IMAGE)?;
         assert_eq!(rt; same.value, 0x0403_0210);
         Ok(())
     }
@@ -115,9 +110,7 @@ box 8 0 0 0 0 0 0 0 0 0 0 0 0 0 0 0 0
         for b in TARGET.iter().skip(PARTS) {
             text.push(*b)?;
         }
-        let Ok(report) = report_on(text.as_slice(), &[0; 64], &IMAGE) else {
-            return Err(Fail::new("refused"));
-        };
+        let report = report_on(text.as_slice(), &[0; 64], &IMAGE)?;
         assert_eq!(rt;
             report.value,
             report.wrong,
