@@ -12,6 +12,7 @@ pub struct Draft {
     pub(crate) page_count: Option<u32>,
     pub(crate) fill: Option<u8>,
     pub(crate) locked: [bool; 1024],
+    // Kept beside the marks: counting them anew at each line would be no plainer.
     pub(crate) locks: u32,
     pub(crate) rows: [Option<[u8; 16]>; 8],
     ghost sound: { Sound page_length page_count locked rows },

@@ -57,6 +57,7 @@ pub fn describe(text: &[u8]) -> Result<Description, Refusal>
     }
     let mut scanner = Scanner::new(text);
     let mut draft = Draft::new();
+    // A line is read by moving the scanner on, so there is no list of lines to go over.
     while !scanner.rest.is_empty() {
         let line = scanner.line;
         read_line(&mut scanner, &mut draft).map_err(|reason| refusal(reason, line))?;

@@ -86,6 +86,7 @@ impl Draft {
         give_factor(&mut self.page_length, self.page_count, n)
     }
 
+    // page_line with its test and its two factors exchanged: one function over the three is no plainer.
     /// A line that gives the page count.
     pub(crate) fn pages_line(&mut self, n: u32) -> Result<(), Reason>
         ensures { taken result (parts_of self.new) ≡ pages_line (parts_of self.old) (Some n) }

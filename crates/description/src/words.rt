@@ -33,6 +33,7 @@ fn number(word: &[u8]) -> Option<u32>
 }
 
 /// The keyword that the bytes spell.
+// No TryFrom: a word that is no keyword is no error.
 fn named(word: &[u8]) -> Option<Keyword>
     ensures { result ≡ keyword_of word.now }
 {

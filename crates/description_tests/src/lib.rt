@@ -60,11 +60,7 @@ box 8 00000 00001 2 3 4 5 6 7 8 9 10 11 12 13 14 00015
 
     // A line of so many spaces.
     fn spaces(heap: Global, count: usize) -> Result<Vec<u8>, Fail> {
-        let mut text = Vec::new(heap);
-        for _ in 0..count {
-            text.push(b' ')?;
-        }
-        Ok(text)
+        Ok(vec![in heap; b' '; count]?)
     }
 
     #[test]

@@ -34,6 +34,7 @@ impl FilledImage<'_> {
         ensures { (more : ℕ) → 8 * blocks ≡ length (image_in self.now) + more → result ≡ imitovstavka (rows_in cipher.entry) (words_in cipher.entry) (bits_of bits) (image_in self.now ++ replicate more (fill_in self.now)) }
     {
         let mut chain = Chain::new(cipher);
+        // By number: the blocks of fill stand in no slice.
         for i in 0..blocks {
             chain.absorb(&self.block(i));
         }
