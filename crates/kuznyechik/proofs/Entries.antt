@@ -1,6 +1,6 @@
 -- What holds of Pi' and its inverse at every byte: one test over the tables, computed, and carried to
 -- each byte.
-use Rattle.std.proofs.Common.{◌≡◌, ℕ, zero, suc, ◌<◌, Bool, true, ◌&&◌, eqb, ltb, List, [], ◌∷◌, get_or, refl, inl, inr, arith}
+use Rattle.std.proofs.Common.{◌≡◌, ℕ, zero, suc, ◌<◌, Bool, true, ◌&&◌, eqb, ltb, List, get_or, refl, inl, inr, arith}
 use Rattle.std.proofs.lemmas.Bool.{eqb-true, ltb-true, and_parts, cases_lt}
 use Rattle.kuznyechik.specs.Pi.{pi, pi⁻¹}
 

@@ -1,7 +1,7 @@
 -- One round more of the loops over the round keys.
 use Rattle.std.proofs.Common.{◌≡◌, ℕ, zero, suc, ◌+◌, ◌<◌, List, [], ◌∷◌, ◌++◌, length, get_or, take, drop, refl, ap₂, arith}
 use Rattle.std.proofs.lemmas.List.{drop_more, drop_all}
-use Rattle.kuznyechik.specs.Steps.{X, LSX, XS⁻¹L⁻¹}
+use Rattle.kuznyechik.specs.Steps.{X, XS⁻¹L⁻¹}
 use Rattle.kuznyechik.specs.Cipher.{enciphered, deciphered}
 
 module _ (keys : List (List ℕ)) (i : ℕ) (a : List ℕ) where

@@ -1,7 +1,7 @@
 -- Turns of the loops that apply the transformations.
-use Rattle.std.proofs.Common.{◌≡◌, ℕ, suc, ◌+◌, ◌-◌, ◌<◌, ◌≤◌, List, [], ◌∷◌, ◌++◌, map, length, get_or, take, drop, set, sym, refl, ap, ◌∙◌, arith}
+use Rattle.std.proofs.Common.{◌≡◌, ℕ, suc, ◌+◌, ◌-◌, ◌<◌, List, [], ◌∷◌, ◌++◌, map, length, get_or, take, drop, set, sym, refl, ap, ◌∙◌, arith}
 use Rattle.std.proofs.lemmas.List.Edits.{map_over_more}
-use Rattle.std.proofs.lemmas.List.{drop_more, drop_all, take_all, get_or_default, append-nil, set_at}
+use Rattle.std.proofs.lemmas.List.{drop_more, drop_all, get_or_default, set_at}
 use Rattle.kuznyechik.specs.Steps.{combined, ℓ, R, R⁻¹, times}
 
 -- a table put over the bytes of a block: those before place i are done

@@ -1,8 +1,7 @@
-use Rattle.std.proofs.Common.{◌≡◌}
 use Rattle.kuznyechik.specs.Pi.{pi⁻¹}
 use Rattle.kuznyechik.specs.Steps.{X, S⁻¹, XS⁻¹L⁻¹}
 use Rattle.kuznyechik.proofs.steps.unround.Goals as goal
 
 pub returns : goal.returns
 unfolding pi⁻¹ X S⁻¹ XS⁻¹L⁻¹
-returns c = let s : c.substitute.new.block ≡ S⁻¹ c.unmix.new.block = c.substitute.ensures in cc
+returns c = cc

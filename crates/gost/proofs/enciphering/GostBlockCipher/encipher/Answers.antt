@@ -1,5 +1,5 @@
 use Rattle.std.proofs.Common.{◌≡◌, rules}
-use Rattle.blocks.proofs.Lengths.{turned_there}
+use Rattle.blocks.proofs.Lengths.{there}
 use Rattle.gost.specs.Cipher.{enciphered, gost}
 use Rattle.gost.proofs.Undoing.{gost_lawful}
 use Rattle.gost.proofs.enciphering.GostBlockCipher.encipher.Goals as goal
@@ -7,10 +7,10 @@ use Rattle.gost.proofs.enciphering.GostBlockCipher.encipher.Goals as goal
 pub returns : goal.returns
 unfolding enciphered
 returns c =
-    let rows = c.args.self.now.table.now.rows in
-    let key = c.args.self.now.key.now in
-    let block = c.args.block.now in
+    let cipher = c.args.self.now in
+    let rows = cipher.table.now.rows in
+    let key = cipher.key.now in
     let judged = c.in_ok-judge_length.ensures in
-    let made : c.write.new.block ≡ enciphered rows key block = cc in
-    let t = turned_there (gost rows key) (gost_lawful rows c.args.self.now.table.now.checked key) block c.write.new.block (judged.sized, judged.bytes) made in
-    record { answer = search rules; block = t.0; undone = t.1 }
+    let made : c.write.new.block ≡ enciphered rows key c.args.block.now = cc in
+    let law = there (gost rows key) (gost_lawful rows cipher.table.now.checked key) c.args.block.now (judged.sized, judged.bytes) in
+    record { answer = search rules; block = cc (made, law.0); undone = cc (made, law.1) }

@@ -1,12 +1,11 @@
-use Rattle.std.proofs.Common.{rules}
-use Rattle.blocks.proofs.Lengths.{turned_back}
+use Rattle.blocks.proofs.Lengths.{back}
 use Rattle.kuznyechik.specs.Cipher.{kuznyechik}
 use Rattle.kuznyechik.proofs.Undoing.{kuznyechik_lawful}
 use Rattle.kuznyechik.proofs.cipher.KuznyechikBlockCipher.decipher.Goals as goal
 
-pub returns : goal.returns
-returns c =
+pub returns-clause-undone : goal.returns-clause-undone
+returns-clause-undone c =
     let keys = c.args.self.now.keys.now in
     let judged = c.in_ok-judge_length.ensures in
-    let t = turned_back (kuznyechik keys) (kuznyechik_lawful keys c.args.self.now.bytes) c.args.block.now c.decipher_block.new.block (judged.sized, judged.bytes) c.decipher_block.ensures in
-    record { answer = search rules; block = t.0; undone = t.1 }
+    let law = back (kuznyechik keys) (kuznyechik_lawful keys c.args.self.now.bytes) c.args.block.now (judged.sized, judged.bytes) in
+    cc law.1
