@@ -11,7 +11,8 @@ mod tests {
     use downloads::frames::open;
     use downloads::giving::give;
     use downloads::pages::program;
-    use downloads::state::{Closed, Receiving, Verdict};
+    use downloads::received::Received;
+    use downloads::state::{Closed, Download, Receiving, Refused, Verdict};
     use gost::cipher::Gost;
     use gost::table::SubstitutionTable;
     use kuznyechik::cipher::Kuznyechik;
@@ -25,7 +26,7 @@ mod tests {
     use std::test::Fail;
     use targets::Target;
     use targets::kinds::{Flash, Ram};
-    use traces::call::{Answer, Call, Keys, Until};
+    use traces::call::{Answer, Bench, Call, Until};
     use traces::run::run;
 
     const OPEN: [bool; 1024] = [false; 1024];
@@ -62,28 +63,34 @@ mod tests {
         Told::Refused(number, place, 3)
     }
 
-    fn refused_by(refusal: Refusal) -> Told {
-        Told::Refused(
-            refusal.reason.number(),
-            refusal.place,
-            refusal.layer.number(),
-        )
-    }
-
-    fn judged(verdict: Verdict) -> Told {
-        match verdict {
-            Verdict::Good => Told::Good,
-            Verdict::Differs => Told::Differs,
+    impl From<Refusal> for Told {
+        fn from(refusal: Refusal) -> Told {
+            Told::Refused(
+                refusal.reason.number(),
+                refusal.place,
+                refusal.layer.number(),
+            )
         }
     }
 
-    fn said(answer: Answer) -> Told {
-        match answer {
-            Answer::Done => Told::Done,
-            Answer::Plain { block, count } => Told::Plain(block, count),
-            Answer::Verdict { verdict } => judged(verdict),
-            Answer::Refused { refusal } => refused_by(refusal),
-            Answer::NotBuilt => Told::NotBuilt,
+    impl From<Verdict> for Told {
+        fn from(verdict: Verdict) -> Told {
+            match verdict {
+                Verdict::Good => Told::Good,
+                Verdict::Differs => Told::Differs,
+            }
+        }
+    }
+
+    impl From<Answer> for Told {
+        fn from(answer: Answer) -> Told {
+            match answer {
+                Answer::Done => Told::Done,
+                Answer::Plain { block, count } => Told::Plain(block, count),
+                Answer::Verdict { verdict } => Told::from(verdict),
+                Answer::Refused { refusal } => Told::from(refusal),
+                Answer::NotBuilt => Told::NotBuilt,
+            }
         }
     }
 
@@ -136,6 +143,13 @@ mod tests {
         blocks: usize,
     }
 
+    impl Sealed {
+        // The cipher with the tag key.
+        fn tag(&self) -> Gost<'_> {
+            Gost::new(&self.table, &self.key)
+        }
+    }
+
     // A table whose rows differ, and are permutations.
     fn mixing() -> Result<SubstitutionTable, Fail> {
         let a = [9, 6, 3, 2, 8, 11, 1, 7, 10, 4, 14, 15, 12, 0, 13, 5];
@@ -153,14 +167,8 @@ mod tests {
         requires { length ≤ 64 }
     {
         let mut body = [0; 64];
-        seal(
-            entry,
-            &IMAGE[..length],
-            &mut body[..length],
-            cipher,
-            &KEY,
-            table,
-        )?;
+        let tag = Gost::new(table, &KEY);
+        seal(entry, &IMAGE[..length], &mut body[..length], cipher, tag)?;
         Ok(body)
     }
 
@@ -204,9 +212,9 @@ mod tests {
         let body = enciphered(cipher, &table, &mut entry, length)?;
         let file = file_of(entry, body);
         let blocks = if kind == GOST {
-            (length + 7) / 8
+            length.div_ceil(8)
         } else {
-            (length + 15) / 16
+            length.div_ceil(16)
         };
         Ok(Sealed {
             listing: list(&file[..36 + length], 16, 1024)?,
@@ -223,18 +231,17 @@ mod tests {
         requires { length steps.now ≤ 32 }
     {
         let mut calls = [Call::Close; 32];
-        for i in 0..steps.len() {
-            calls[i] = steps[i].0;
+        // By index: a `&mut` to a call that borrows its bytes is not covered by the borrow checker.
+        for (i, step) in steps.iter().enumerate() {
+            calls[i] = step.0;
         }
         calls
     }
 
     // Sees that every call answered as it is to.
-    fn answered(rt: &impl Abort, answers: &[Answer; 32], steps: &[(Call<'_>, Told)])
-        requires { length steps.now ≤ 32 }
-    {
-        for i in 0..steps.len() {
-            assert_eq!(rt; said(answers[i]), steps[i].1, "{}", i);
+    fn answered(rt: &impl Abort, answers: &[Answer], steps: &[(Call<'_>, Told)]) {
+        for (i, (answer, step)) in answers.iter().zip(steps).enumerate() {
+            assert_eq!(rt; Told::from(*answer), step.1, "{}", i);
         }
     }
 
@@ -250,8 +257,8 @@ mod tests {
         rt: &impl Abort,
         sealed: &'a Sealed,
         cipher: &'a C,
-        target: &mut T,
-        page: &mut [u8],
+        target: &'a mut T,
+        page: &'a mut [u8],
         steps: &[(Call<'_>, Told)],
     ) -> Result<After, Fail>
         requires { length steps.now ≤ 32 }
@@ -261,19 +268,20 @@ mod tests {
         let mut body = [238; 64];
         let mut arrivals = ArrivalRecord::new(sealed.blocks)?;
         assert!(rt; sealed.length <= 64);
-        let keys = Keys {
+        let mut bench = Bench {
             cipher,
-            table: &sealed.table,
-            tag_key: &sealed.key,
+            tag: sealed.tag(),
+            target,
+            received: Received {
+                body: &mut body[..sealed.length],
+                arrivals: &mut arrivals,
+            },
+            page,
         };
         let progress = run(
             &sealed.listing,
             1,
-            &keys,
-            target,
-            &mut body[..sealed.length],
-            &mut arrivals,
-            page,
+            &mut bench,
             &calls[..steps.len()],
             &mut answers[..steps.len()],
             Until::End,
@@ -369,7 +377,7 @@ mod tests {
     {
         let sealed = sealing(cipher, kind, mode, 1, long)?;
         let end = long as usize;
-        let sent = &sealed.body;
+        let sent = sealed.body;
         let mut memory = [9; 192];
         let mut flash = Flash::new(&mut memory, 16, 12, 255, &OPEN)?;
         let mut page = [0; 16];
@@ -703,8 +711,7 @@ mod tests {
         section: &Section,
         cipher: &C,
         target: &mut T,
-        body: &[u8],
-        arrivals: &ArrivalRecord,
+        received: &Received<'_>,
         j: u16,
         wanted: Told,
         prepared: &[u8],
@@ -712,9 +719,9 @@ mod tests {
         requires { length prepared.now ≤ 16 }
     {
         let mut page = [7; 16];
-        let answer = match program(section, cipher, target, body, arrivals, j, &mut page) {
+        let answer = match program(section, cipher, target, received, j, &mut page) {
             Ok(()) => Told::Done,
-            Err(refusal) => refused_by(refusal),
+            Err(refusal) => Told::from(refusal),
         };
         assert_eq!(rt; answer, wanted, "{}", j);
         let end = prepared.len();
@@ -741,96 +748,37 @@ mod tests {
         let sent = &sealed.body;
         let mut body = [0; 43];
         let mut arrivals = ArrivalRecord::new(6)?;
-        let state = open(&sealed.listing, 1, &cipher, &body, &mut arrivals)?;
+        let mut received = Received {
+            body: &mut body,
+            arrivals: &mut arrivals,
+        };
+        let state = open(&sealed.listing, 1, &cipher, &mut received)?;
         let section = state.section();
-        programs(
-            rt,
-            &section,
-            &cipher,
-            target,
-            &body,
-            &arrivals,
-            3,
-            no(13, 4),
-            &[],
-        )?;
-        programs(
-            rt,
-            &section,
-            &cipher,
-            target,
-            &body,
-            &arrivals,
-            65535,
-            no(13, 65536),
-            &[],
-        )?;
-        programs(
-            rt,
-            &section,
-            &cipher,
-            target,
-            &body,
-            &arrivals,
-            0,
-            no(12, 0),
-            &[],
-        )?;
-        let state = takes(state, &mut body, &mut arrivals, 2, &sent[16..32])?;
-        programs(
-            rt,
-            &section,
-            &cipher,
-            target,
-            &body,
-            &arrivals,
-            1,
-            no(12, 1),
-            &[],
-        )?;
-        let state = takes(state, &mut body, &mut arrivals, 1, &sent[8..16])?;
-        programs(
-            rt,
-            &section,
-            &cipher,
-            target,
-            &body,
-            &arrivals,
-            0,
-            no(12, 0),
-            &[],
-        )?;
-        programs(
-            rt,
-            &section,
-            &cipher,
-            target,
-            &body,
-            &arrivals,
-            1,
-            Told::Refused(14, 2, 4),
-            &IMAGE[16..32],
-        )?;
-        let state = takes(state, &mut body, &mut arrivals, 5, &sent[40..43])?;
-        let state = takes(state, &mut body, &mut arrivals, 4, &sent[32..40])?;
-        let _ = state;
-        programs(
-            rt, &section, &cipher, target, &body, &arrivals, 2, third, shown,
-        )
+        for (j, wanted) in [(3u16, no(13, 4)), (65535, no(13, 65536)), (0, no(12, 0))] {
+            programs(rt, &section, &cipher, target, &received, j, wanted, &[])?;
+        }
+        let state = takes(state, &mut received, 2, &sent[16..32])?;
+        programs(rt, &section, &cipher, target, &received, 1, no(12, 1), &[])?;
+        let state = takes(state, &mut received, 1, &sent[8..16])?;
+        programs(rt, &section, &cipher, target, &received, 0, no(12, 0), &[])?;
+        let unready = Told::Refused(14, 2, 4);
+        let second = &IMAGE[16..32];
+        programs(rt, &section, &cipher, target, &received, 1, unready, second)?;
+        let state = takes(state, &mut received, 5, &sent[40..43])?;
+        let _ = takes(state, &mut received, 4, &sent[32..40])?;
+        programs(rt, &section, &cipher, target, &received, 2, third, shown)
     }
 
     // Takes a frame that is not refused.
     fn takes(
         state: Receiving,
-        body: &mut [u8],
-        arrivals: &mut ArrivalRecord,
+        received: &mut Received<'_>,
         first: u32,
         bytes: &[u8],
     ) -> Result<Receiving, Fail> {
-        match state.take_frame(body, arrivals, first, bytes) {
-            Ok(state) => Ok(state),
-            Err(_) => Err(Fail::new("refused")),
-        }
+        state
+            .take_frame(received, first, bytes)
+            .map_err(|_| Fail::new("refused"))
     }
 
     // Sees that memory holds page 2 of an image of 43 bytes, and else nines.
@@ -879,21 +827,17 @@ mod tests {
         long: usize,
         arrivals: &mut ArrivalRecord,
         wanted: Told,
-    ) -> Result<(), Fail>
-        requires { long ≤ 64 }
-    {
+    ) -> Result<(), Fail> {
+        assert!(rt; long <= 64);
         let was = arrivals.has(0);
-        match open(
-            &sealed.listing,
-            number,
-            cipher,
-            &sealed.body[..long],
+        let mut body = sealed.body;
+        let mut received = Received {
+            body: &mut body[..long],
             arrivals,
-        ) {
-            Ok(_) => return Err(Fail::new("opened")),
-            Err(refusal) => assert_eq!(rt; refused_by(refusal), wanted),
-        }
-        assert_eq!(rt; arrivals.has(0), was);
+        };
+        let answer = open(&sealed.listing, number, cipher, &mut received);
+        assert_eq!(rt; answer.err().map(Told::from), Some(wanted));
+        assert_eq!(rt; received.arrivals.has(0), was);
         Ok(())
     }
 
@@ -906,51 +850,31 @@ mod tests {
         let sealed = sealing(&gost, GOST, FEEDBACK, 1, 43)?;
         let mut body = [0; 43];
         let mut arrivals = ArrivalRecord::new(6)?;
-        let state = open(&sealed.listing, 1, &gost, &body, &mut arrivals)?;
-        let _ = takes(state, &mut body, &mut arrivals, 0, &sealed.body[..43])?;
-        unopened(
-            &rt,
-            &sealed,
-            0,
-            &gost,
-            43,
-            &mut arrivals,
-            Told::Refused(5, 0, 2),
-        )?;
-        unopened(
-            &rt,
-            &sealed,
-            2,
-            &kuznyechik,
-            42,
-            &mut arrivals,
-            Told::Refused(5, 2, 2),
-        )?;
-        unopened(&rt, &sealed, 1, &gost, 42, &mut arrivals, no(9, 0))?;
-        unopened(&rt, &sealed, 1, &gost, 44, &mut arrivals, no(9, 0))?;
+        let mut received = Received {
+            body: &mut body,
+            arrivals: &mut arrivals,
+        };
+        let state = open(&sealed.listing, 1, &gost, &mut received)?;
+        let _ = takes(state, &mut received, 0, &sealed.body[..43])?;
+        let [none, past] = [Told::Refused(5, 0, 2), Told::Refused(5, 2, 2)];
+        unopened(&rt, &sealed, 0, &gost, 43, &mut arrivals, none)?;
+        unopened(&rt, &sealed, 2, &kuznyechik, 42, &mut arrivals, past)?;
+        for long in [42usize, 44] {
+            unopened(&rt, &sealed, 1, &gost, long, &mut arrivals, no(9, 0))?;
+        }
         unopened(&rt, &sealed, 1, &kuznyechik, 43, &mut arrivals, no(9, 0))?;
-        unopened(
-            &rt,
-            &sealed,
-            1,
-            &gost,
-            43,
-            &mut ArrivalRecord::new(5)?,
-            no(9, 0),
-        )?;
-        unopened(
-            &rt,
-            &sealed,
-            1,
-            &gost,
-            43,
-            &mut ArrivalRecord::new(7)?,
-            no(9, 0),
-        )?;
+        for blocks in [5usize, 7] {
+            let mut other = ArrivalRecord::new(blocks)?;
+            unopened(&rt, &sealed, 1, &gost, 43, &mut other, no(9, 0))?;
+        }
         assert_eq!(rt; ArrivalRecord::new(2048)?.blocks(), 2048);
         assert_eq!(rt; ArrivalRecord::new(2049).is_err(), true);
         assert_eq!(rt; arrivals.first_missing(0, 6), None);
-        let _ = open(&sealed.listing, 1, &gost, &body, &mut arrivals)?;
+        let mut received = Received {
+            body: &mut body,
+            arrivals: &mut arrivals,
+        };
+        let _ = open(&sealed.listing, 1, &gost, &mut received)?;
         for k in 0..6u32 {
             assert_eq!(rt; arrivals.first_missing(k, 6), Some(k));
         }
@@ -968,19 +892,15 @@ mod tests {
         room: usize,
     ) -> Result<(), Fail> {
         assert!(rt; long <= 64 && room <= 64);
-        let arrivals = ArrivalRecord::new(blocks)?;
+        let mut body = IMAGE;
+        let mut arrivals = ArrivalRecord::new(blocks)?;
+        let received = Received {
+            body: &mut body[..long],
+            arrivals: &mut arrivals,
+        };
         let mut out = [7; 64];
-        match give(
-            section,
-            cipher,
-            &IMAGE[..long],
-            &arrivals,
-            9,
-            &mut out[..room],
-        ) {
-            Ok(_) => return Err(Fail::new("given")),
-            Err(refusal) => assert_eq!(rt; refused_by(refusal), no(9, 0)),
-        }
+        let answer = give(section, cipher, &received, 9, &mut out[..room]);
+        assert_eq!(rt; answer.err().map(Told::from), Some(no(9, 0)));
         every(rt, out, 7)
     }
 
@@ -994,24 +914,33 @@ mod tests {
         room: usize,
     ) -> Result<(), Fail> {
         assert!(rt; long <= 64 && room <= 64);
-        let arrivals = ArrivalRecord::new(blocks)?;
+        let mut body = IMAGE;
+        let mut arrivals = ArrivalRecord::new(blocks)?;
+        let received = Received {
+            body: &mut body[..long],
+            arrivals: &mut arrivals,
+        };
         let mut page = [7; 64];
         let mut memory = [9; 16];
         let mut ram = Ram::new(&mut memory, 16, 1, 255, &OPEN)?;
-        match program(
-            section,
-            cipher,
-            &mut ram,
-            &IMAGE[..long],
-            &arrivals,
-            9,
-            &mut page[..room],
-        ) {
-            Ok(_) => return Err(Fail::new("programmed")),
-            Err(refusal) => assert_eq!(rt; refused_by(refusal), no(9, 0)),
-        }
+        let answer = program(section, cipher, &mut ram, &received, 9, &mut page[..room]);
+        assert_eq!(rt; answer.err().map(Told::from), Some(no(9, 0)));
         every(rt, memory, 9)?;
         every(rt, page, 7)
+    }
+
+    // The state that a call gives back that is refused with 9.
+    fn given_back<const CLOSED: bool>(
+        rt: &impl Abort,
+        answer: Result<Download<CLOSED>, Refused<Receiving>>,
+    ) -> Result<Receiving, Fail> {
+        match answer {
+            Ok(_) => Err(Fail::new("not refused")),
+            Err(refused) => {
+                assert_eq!(rt; Told::from(refused.refusal), no(9, 0));
+                Ok(refused.state)
+            }
+        }
     }
 
     // The same for a frame.
@@ -1026,13 +955,11 @@ mod tests {
         assert!(rt; long <= 64);
         let mut body = [7; 64];
         let mut arrivals = ArrivalRecord::new(blocks)?;
-        let state = match state.take_frame(&mut body[..long], &mut arrivals, first, bytes) {
-            Ok(_) => return Err(Fail::new("taken")),
-            Err(refused) => {
-                assert_eq!(rt; refused_by(refused.refusal), no(9, 0));
-                refused.state
-            }
+        let mut received = Received {
+            body: &mut body[..long],
+            arrivals: &mut arrivals,
         };
+        let state = given_back(rt, state.take_frame(&mut received, first, bytes))?;
         assert_eq!(rt; arrivals.has(0), false);
         every(rt, body, 7)?;
         Ok(state)
@@ -1046,14 +973,13 @@ mod tests {
         blocks: usize,
     ) -> Result<Receiving, Fail> {
         assert!(rt; long <= 64);
-        let arrivals = ArrivalRecord::new(blocks)?;
-        match state.close(&IMAGE[..long], &arrivals) {
-            Ok(_) => Err(Fail::new("closed")),
-            Err(refused) => {
-                assert_eq!(rt; refused_by(refused.refusal), no(9, 0));
-                Ok(refused.state)
-            }
-        }
+        let mut body = IMAGE;
+        let mut arrivals = ArrivalRecord::new(blocks)?;
+        let received = Received {
+            body: &mut body[..long],
+            arrivals: &mut arrivals,
+        };
+        given_back(rt, state.close(&received))
     }
 
     #[test]
@@ -1063,8 +989,13 @@ mod tests {
         let keys = [[0; 16]; 10];
         let kuznyechik = Kuznyechik::new(&keys);
         let sealed = sealing(&gost, GOST, FEEDBACK, 1, 43)?;
+        let mut body = [0; 43];
         let mut arrivals = ArrivalRecord::new(6)?;
-        let mut state = open(&sealed.listing, 1, &gost, &sealed.body[..43], &mut arrivals)?;
+        let mut received = Received {
+            body: &mut body,
+            arrivals: &mut arrivals,
+        };
+        let mut state = open(&sealed.listing, 1, &gost, &mut received)?;
         let section = state.section();
         for room in [0usize, 7, 9, 16] {
             ungiven(&rt, &section, &gost, 43, 6, room)?;
@@ -1104,19 +1035,16 @@ mod tests {
         wanted: Told,
         kept: &[u8],
     ) -> Result<Closed, Fail>
-        requires { (pages ≤ 6) × ((room ≤ 48) × (length kept.now ≤ 48)) }
+        requires { length kept.now ≤ 48 }
     {
+        assert!(rt; pages <= 6 && room <= 48);
         let mut lent = memory;
         let ram = Ram::new(&mut lent[..16 * pages as usize], 16, pages, 255, &OPEN)?;
         let mut page = [7; 48];
-        let (answer, state) = match state.verify(
-            &ram,
-            &sealed.table,
-            &sealed.key,
-            &mut page[..room],
-        ) {
-            Ok(verified) => (judged(verified.verdict), verified.state),
-            Err(refused) => (refused_by(refused.refusal), refused.state),
+        let answer = state.verify(&ram, sealed.tag(), &mut page[..room]);
+        let (answer, state) = match answer {
+            Ok(verified) => (Told::from(verified.verdict), verified.state),
+            Err(refused) => (Told::from(refused.refusal), refused.state),
         };
         assert_eq!(rt; answer, wanted);
         begins(rt, page, kept)?;
@@ -1135,12 +1063,13 @@ mod tests {
     fn closed<C: BlockCipher>(sealed: &Sealed, cipher: &C) -> Result<Closed, Fail> {
         let mut body = [0; 43];
         let mut arrivals = ArrivalRecord::new(6)?;
-        let state = open(&sealed.listing, 1, cipher, &body, &mut arrivals)?;
-        let state = takes(state, &mut body, &mut arrivals, 0, &sealed.body[..43])?;
-        match state.close(&body, &arrivals) {
-            Ok(state) => Ok(state),
-            Err(_) => Err(Fail::new("not closed")),
-        }
+        let mut received = Received {
+            body: &mut body,
+            arrivals: &mut arrivals,
+        };
+        let state = open(&sealed.listing, 1, cipher, &mut received)?;
+        let state = takes(state, &mut received, 0, &sealed.body[..43])?;
+        state.close(&received).map_err(|_| Fail::new("not closed"))
     }
 
     #[test]
@@ -1148,42 +1077,27 @@ mod tests {
         let table = mixing()?;
         let cipher = Gost::new(&table, &KEY);
         let near = sealing(&cipher, GOST, FEEDBACK, 1, 43)?;
-        let state = closed(&near, &cipher)?;
+        let mut state = closed(&near, &cipher)?;
         // Neither the fill nor other pages count, and the buffer keeps the last page.
-        let memory = around(255, 255);
-        let state = verifies(
-            &rt,
-            state,
-            &near,
-            memory,
-            6,
-            16,
-            Told::Good,
-            &memory[48..64],
-        )?;
+        for (memory, pages) in [
+            (around(255, 255), 6u32),
+            (around(1, 2), 6),
+            (around(1, 2), 4),
+        ] {
+            state = verifies(
+                &rt,
+                state,
+                &near,
+                memory,
+                pages,
+                16,
+                Told::Good,
+                &memory[48..64],
+            )?;
+        }
         let mut memory = around(1, 2);
-        let state = verifies(
-            &rt,
-            state,
-            &near,
-            memory,
-            6,
-            16,
-            Told::Good,
-            &memory[48..64],
-        )?;
-        let state = verifies(
-            &rt,
-            state,
-            &near,
-            memory,
-            4,
-            16,
-            Told::Good,
-            &memory[48..64],
-        )?;
         memory[16] ^= 1;
-        let state = verifies(
+        state = verifies(
             &rt,
             state,
             &near,
@@ -1195,7 +1109,7 @@ mod tests {
         )?;
         memory[16] ^= 1;
         memory[58] ^= 128;
-        let state = verifies(
+        state = verifies(
             &rt,
             state,
             &near,
@@ -1206,11 +1120,15 @@ mod tests {
             &memory[48..64],
         )?;
         // Refused, with the buffer as it was.
-        let state = verifies(&rt, state, &near, memory, 6, 15, no(9, 0), &[])?;
-        let state = verifies(&rt, state, &near, memory, 6, 48, no(9, 0), &[])?;
-        let state = verifies(&rt, state, &near, memory, 3, 17, no(9, 0), &[])?;
-        let state = verifies(&rt, state, &near, memory, 3, 16, no(13, 3), &[])?;
-        let _ = verifies(&rt, state, &near, memory, 1, 16, no(13, 1), &[])?;
+        for (pages, room, wanted) in [
+            (6u32, 15usize, no(9, 0)),
+            (6, 48, no(9, 0)),
+            (3, 17, no(9, 0)),
+            (3, 16, no(13, 3)),
+            (1, 16, no(13, 1)),
+        ] {
+            state = verifies(&rt, state, &near, memory, pages, room, wanted, &[])?;
+        }
         let far = sealing(&cipher, GOST, FEEDBACK, 5, 43)?;
         let state = closed(&far, &cipher)?;
         let state = verifies(&rt, state, &far, memory, 4, 16, no(13, 5), &[])?;
@@ -1220,7 +1138,7 @@ mod tests {
 
     fn unanswered(rt: &impl Abort, answers: [Answer; 5]) {
         for answer in answers {
-            assert_eq!(rt; said(answer), Told::NotBuilt);
+            assert_eq!(rt; Told::from(answer), Told::NotBuilt);
         }
     }
 
@@ -1231,44 +1149,45 @@ mod tests {
         number: u32,
         cipher: &'a C,
         long: usize,
-        arrivals: &mut ArrivalRecord,
+        mut arrivals: ArrivalRecord,
         room: usize,
         wanted: Told,
     ) -> Result<(), Fail>
         requires { (long ≤ 64) × (room ≤ 5) }
     {
+        // A copy: what the calls borrow has another lifetime than what the bench borrows.
+        let sent = sealed.body;
         let was = arrivals.has(0);
         let mut memory = [9; 64];
         let mut ram = Ram::new(&mut memory, 16, 4, 255, &OPEN)?;
         let mut body = [7; 64];
         let mut page = [7; 16];
         let calls = [
-            frame(0, &sealed.body[..16]),
+            frame(0, &sent[..16]),
             erase_page(0),
             program_page(0),
             Call::Close,
         ];
         let mut answers = [Answer::NotBuilt; 5];
-        let keys = Keys {
+        let mut bench = Bench {
             cipher,
-            table: &sealed.table,
-            tag_key: &sealed.key,
+            tag: sealed.tag(),
+            target: &mut ram,
+            received: Received {
+                body: &mut body[..long],
+                arrivals: &mut arrivals,
+            },
+            page: &mut page,
         };
-        match run(
+        let answer = run(
             &sealed.listing,
             number,
-            &keys,
-            &mut ram,
-            &mut body[..long],
-            arrivals,
-            &mut page,
+            &mut bench,
             &calls,
             &mut answers[..room],
             Until::End,
-        ) {
-            Ok(_) => return Err(Fail::new("run")),
-            Err(refusal) => assert_eq!(rt; refused_by(refusal), wanted),
-        }
+        );
+        assert_eq!(rt; answer.err().map(Told::from), Some(wanted));
         assert_eq!(rt; arrivals.has(0), was);
         unanswered(rt, answers);
         every(rt, body, 7)?;
@@ -1285,33 +1204,21 @@ mod tests {
         let sealed = sealing(&gost, GOST, FEEDBACK, 1, 43)?;
         let mut body = [0; 43];
         let mut arrivals = ArrivalRecord::new(6)?;
-        let state = open(&sealed.listing, 1, &gost, &body, &mut arrivals)?;
-        let _ = takes(state, &mut body, &mut arrivals, 0, &sealed.body[..8])?;
-        unrun(&rt, &sealed, 1, &gost, 43, &mut arrivals, 3, no(9, 0))?;
-        unrun(&rt, &sealed, 1, &gost, 43, &mut arrivals, 5, no(9, 0))?;
-        unrun(&rt, &sealed, 2, &gost, 43, &mut arrivals, 0, no(9, 0))?;
-        unrun(
-            &rt,
-            &sealed,
-            2,
-            &gost,
-            42,
-            &mut arrivals,
-            4,
-            Told::Refused(5, 2, 2),
-        )?;
-        unrun(&rt, &sealed, 1, &gost, 42, &mut arrivals, 4, no(9, 0))?;
-        unrun(&rt, &sealed, 1, &kuznyechik, 43, &mut arrivals, 4, no(9, 0))?;
-        unrun(
-            &rt,
-            &sealed,
-            1,
-            &gost,
-            43,
-            &mut ArrivalRecord::new(5)?,
-            4,
-            no(9, 0),
-        )
+        let mut received = Received {
+            body: &mut body,
+            arrivals: &mut arrivals,
+        };
+        let state = open(&sealed.listing, 1, &gost, &mut received)?;
+        let _ = takes(state, &mut received, 0, &sealed.body[..8])?;
+        unrun(&rt, &sealed, 1, &gost, 43, arrivals, 3, no(9, 0))?;
+        unrun(&rt, &sealed, 1, &gost, 43, arrivals, 5, no(9, 0))?;
+        unrun(&rt, &sealed, 2, &gost, 43, arrivals, 0, no(9, 0))?;
+        let past = Told::Refused(5, 2, 2);
+        unrun(&rt, &sealed, 2, &gost, 42, arrivals, 4, past)?;
+        unrun(&rt, &sealed, 1, &gost, 42, arrivals, 4, no(9, 0))?;
+        unrun(&rt, &sealed, 1, &kuznyechik, 43, arrivals, 4, no(9, 0))?;
+        let other = ArrivalRecord::new(5)?;
+        unrun(&rt, &sealed, 1, &gost, 43, other, 4, no(9, 0))
     }
 
     // A page buffer of another length than the target's pages, and an image off the target.
