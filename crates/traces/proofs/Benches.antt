@@ -1,21 +1,16 @@
 -- A bench that lends the same things.
-use Rattle.std.proofs.Common.{◌≡◌, ℕ, Bool, List, length, sym, refl, ap, ◌∙◌, subst, ap₂}
+use Rattle.std.proofs.Common.{◌≡◌, ℕ, Bool, length, ap, ◌∙◌, subst, ap₂}
 use Rattle.blocks.specs.Ciphers.{BlockMap}
 use Rattle.gost.specs.declared.cipher.Gost.{Gost}
 use Rattle.gost.specs.Keyed.{rows_in, words_in}
 use Rattle.sections.specs.Entries.{Described}
 use Rattle.targets.specs.State.{TargetState}
-use Rattle.downloads.specs.Frames.{block_of, good_store}
 use Rattle.traces.specs.declared.call.Bench.{Bench}
-use Rattle.downloads.specs.Received.{stores}
 use Rattle.traces.specs.Traces.{Setting, Call, Answer}
 use Rattle.traces.specs.Runs.{setting}
-use Rattle.traces.specs.Bench.{SameBench, Serves, Performs, setting_on, stands_on, buffers_on}
+use Rattle.traces.specs.Bench.{SameBench, Performs, PerformsOn, setting_on, stands_on, buffers_on}
 
 module _ {C T : Type 0} where
-  pub same_none : (b : Bench C T) → SameBench b b
-  same_none b = record { cipher = refl; tag = refl; target = refl; received = record { body = refl; arrivals = refl }; page = refl; body_long = refl; marks_long = refl; page_long = refl }
-
   pub same_then : (a b c : Bench C T) → SameBench a b → SameBench b c → SameBench a c
   same_then a b c p q = record {
     cipher = q.cipher ∙ p.cipher;
@@ -35,16 +30,10 @@ module _ {C T : Type 0} where
         ap₂ (λ (c : C) (x : Gost). setting (map c) s (rows_in x) (words_in x) (length b.page.now)) h.cipher h.tag
         ∙ ap (λ (n : ℕ). setting (map a.cipher.now) s (rows_in a.tag) (words_in a.tag) n) h.page_long
 
-    pub same_serves : (s s' : Described) → s' ≡ s → Serves map s a → Serves map s' b
-    same_serves s s' e p = record {
-      sized = ap (λ (c : C). (map c).size) h.cipher ∙ (p.sized ∙ ap block_of (sym e));
-      stored = ap (λ (d : Described). stores d b.received) e ∙ (ap₂ (λ (m n : ℕ). good_store s m n) h.body_long h.marks_long ∙ p.stored);
-    }
-
   -- a call is made in the setting that they share
   pub same_performs : (map : C → BlockMap) (state : T → TargetState) (a b b' : Bench C T) (s s' : Described) (closed closed' : Bool) (c : Call) (said : Answer) → SameBench a b → s' ≡ s →
-      Performs (setting_on map s' b) (stands_on state s' closed b) (stands_on state s' closed' b') (buffers_on b) (buffers_on b') c said →
+      PerformsOn map state s' closed closed' b b' c said →
       Performs (setting_on map s a) (stands_on state s closed b) (stands_on state s closed' b') (buffers_on b) (buffers_on b') c said
   same_performs map state a b b' s s' closed closed' c said h e p =
       subst (λ (w : Setting). Performs w (stands_on state s closed b) (stands_on state s closed' b') (buffers_on b) (buffers_on b') c said) (same_setting map a b h s)
-      (subst (λ (d : Described). Performs (setting_on map d b) (stands_on state d closed b) (stands_on state d closed' b') (buffers_on b) (buffers_on b') c said) e p)
+      (subst (λ (d : Described). PerformsOn map state d closed closed' b b' c said) e p)

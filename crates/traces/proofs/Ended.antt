@@ -1,5 +1,5 @@
 -- A trace that was run from an opened download.
-use Rattle.std.proofs.Common.{◌≡◌, ℕ, true, false, ◌&&◌, eqb, List, length, replicate, Ok, Err, Result, sym, ap, ◌∙◌, subst, ap₂, arith}
+use Rattle.std.proofs.Common.{◌≡◌, ℕ, true, false, ◌&&◌, eqb, List, length, replicate, Ok, Err, Result, sym, ap, ◌∙◌, subst, ap₂}
 use Rattle.std.proofs.lemmas.Bool.{and_parts, eqb-true}
 use Rattle.refusals.specs.Codes.{Code, then, unless}
 use Rattle.sections.specs.Entries.{Described}

@@ -1,7 +1,7 @@
 -- Pages made from unaltered copies hold the image: the image bytes on the target are the sent image.
 use Rattle.std.proofs.Common.{◌≡◌, ℕ, zero, suc, ◌+◌, ◌-◌, ◌*◌, ◌/◌, ◌%◌, ◌<◌, ◌≤◌, ◌⊎◌, List, [], ◌∷◌, ◌++◌, length, get_or, take, drop, replicate, sym, refl, ap, ◌∙◌, ap₂, inl, inr, ⊎_elim, suc-mul, mul-le-mul_left, mul-zero, zero-mul, mul-suc, mul-add, arith, take-add}
 use native.Mathlib.Nat.{lt_of_mul-lt-mul_left}
-use Rattle.std.proofs.lemmas.List.{drop_at, take-append-drop, append_assoc, append-nil, take_all, take_at, drop-drop, length-take, length-drop, length-append, length-replicate, nil_from_length, get_or-drop}
+use Rattle.std.proofs.lemmas.List.{take-append-drop, append_assoc, append-nil, take_all, take_at, drop-drop, length-take, length-drop, length-append, length-replicate, nil_from_length, get_or-drop}
 use Rattle.std.proofs.Math.Seq.{take-append-add}
 use Rattle.std.proofs.lemmas.Bool.{cases_lt}
 use Rattle.blocks.specs.Bytes.{block}

@@ -14,7 +14,6 @@ pub mod Promised
 pub mod Worked
 pub mod Lengths
 pub mod Calls
-pub mod Pushing
 pub mod GivenOut
 pub mod Performed
 pub mod Benches

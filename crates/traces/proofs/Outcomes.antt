@@ -1,5 +1,5 @@
 -- What follows from how a call is answered.
-use Rattle.std.proofs.Common.{◌≡◌, ℕ, Bool, true, false, cond, Some, None, Ok, Err, Option, Result, refl, ap, ◌∙◌, arith}
+use Rattle.std.proofs.Common.{◌≡◌, ℕ, Bool, true, false, cond, Some, None, Ok, Err, Option, Result, refl, ap, ◌∙◌}
 use Rattle.refusals.specs.declared.Reason.{Reason}
 use Rattle.refusals.specs.Codes.{Code, then, unless}
 use Rattle.downloads.specs.Copies.{refused_at}

@@ -1,16 +1,17 @@
 -- A loop over the calls of a trace.
 use Rattle.std.proofs.Common.{◌≡◌, ℕ, ◌+◌, ◌<◌, Bool, true, false, ◌&&◌, List, [], ◌∷◌, ◌++◌, map, length, get_or, take, drop, set, sym, refl, ap, ◌∙◌, subst, ap₂, inl, inr, arith}
 use lib.ListN.{length-map}
-use Rattle.std.proofs.lemmas.List.{map_more, map-set, get_or-set_same, get_or-set_other, drop-drop, drop-set-lt}
+use Rattle.std.proofs.lemmas.List.{map_more, map_push, take_more_set, map-set, get_or-set_same, get_or-set_other, drop-drop, drop-set-lt}
+use Rattle.std.proofs.ByRecursion.{All-push}
 use Rattle.std.proofs.lemmas.Bool.{cases_eq, and_parts, false≢true}
 use Rattle.traces.specs.declared.call.Call.{Call as CodeCall}
 use Rattle.traces.specs.declared.call.Answer.{Answer as CodeAnswer}
-use Rattle.traces.specs.Traces.{Setting, Call, Standing, run, step, OfBytes, AllOfBytes, not_built, is_refused}
+use Rattle.traces.specs.Traces.{Setting, Call, Answer, Standing, run, step, answer_to, answers_of, OfBytes, AllOfBytes, not_built, is_refused}
 use Rattle.traces.specs.Meaning.{call_of, answer_of}
 use Rattle.traces.specs.Buffers.{Buffers, after, buffers_after}
 use Rattle.traces.specs.Runs.{Ends}
 use Rattle.traces.specs.Bench.{Performs, PerformsAll}
-use Rattle.traces.proofs.Pushing.{Made, made_none, made_more}
+use Rattle.traces.proofs.Running.{run_push, answers_push}
 
 buffers_push : (w : Setting) (s : Standing) (b : Buffers) (calls : List Call) (c : Call) → buffers_after w s b (calls ++ c ∷ []) ≡ after w (run w s calls) (buffers_after w s b calls) c
 buffers_push w s b [] c = refl
@@ -18,32 +19,29 @@ buffers_push w s b (x ∷ calls) c = buffers_push w (step w s x) (after w s b x)
 
 -- after i calls
 pub record Ran (w : Setting) (s : Standing) (b : Buffers) (calls : List CodeCall) (told : List CodeAnswer) (i : ℕ) (u : Standing) (v : Buffers) : Type 0 where
-  pub made : Made call_of answer_of w s calls told i u
-  pub holds : v ≡ buffers_after w s b (map call_of (take i calls))
+  pub bytes : AllOfBytes (map call_of (take i calls))
+  pub performs : PerformsAll w s u b v (map call_of (take i calls)) (map answer_of (take i told))
 
-module _ (w : Setting) (s : Standing) (b : Buffers) (calls : List CodeCall) where
-  pub ran_none : (told : List CodeAnswer) → Ran w s b calls told 0 s b
-  ran_none told = record { made = made_none call_of answer_of w s calls told; holds = refl }
-
-  -- one call more
-  pub ran_more : (told : List CodeAnswer) (i : ℕ) (d : CodeCall) (a : CodeAnswer) (u u' : Standing) (v v' : Buffers) → Ran w s b calls told i u v → i < length calls → i < length told →
-      OfBytes (call_of (get_or calls i d)) → Performs w u u' v v' (call_of (get_or calls i d)) (answer_of a) → Ran w s b calls (set told i a) (i + 1) u' v'
-  ran_more told i d a u u' v v' was li lt ob p =
-      let c = call_of (get_or calls i d) in
-      let past = map call_of (take i calls) in
-      let more : map call_of (take (i + 1) calls) ≡ past ++ c ∷ [] = map_more call_of calls i d li in
-      record {
-        made = made_more call_of answer_of w s calls told i d a u u' li lt was.made ob p.answer p.stands;
-        holds =
-            p.holds
-            ∙ (ap₂ (λ (x : Standing) (y : Buffers). after w x y c) was.made.stands was.holds
-            ∙ sym (ap (buffers_after w s b) more ∙ buffers_push w s b past c));
-      }
-
-  -- what was made by i calls
-  pub ran_at : (told : List CodeAnswer) (i : ℕ) (u : Standing) (v : Buffers) → Ran w s b calls told i u v →
-      AllOfBytes (map call_of (take i calls)) × PerformsAll w s u b v (map call_of (take i calls)) (map answer_of (take i told))
-  ran_at told i u v was = (was.made.bytes, record { answers_are = was.made.answers; stands = was.made.stands; holds = was.holds })
+-- one call more
+pub ran_more : (w : Setting) (s : Standing) (b : Buffers) (calls : List CodeCall) (told : List CodeAnswer) (i : ℕ) (d : CodeCall) (a : CodeAnswer) (u u' : Standing) (v v' : Buffers) → Ran w s b calls told i u v → i < length calls → i < length told →
+    OfBytes (call_of (get_or calls i d)) → Performs w u u' v v' (call_of (get_or calls i d)) (answer_of a) → Ran w s b calls (set told i a) (i + 1) u' v'
+ran_more w s b calls told i d a u u' v v' was li lt ob p =
+    let c = call_of (get_or calls i d) in
+    let past = map call_of (take i calls) in
+    let more : map call_of (take (i + 1) calls) ≡ past ++ c ∷ [] = map_more call_of calls i d li in
+    let h = was.performs in
+    record {
+      bytes = subst AllOfBytes (sym more) (All-push OfBytes past c was.bytes ob);
+      performs = record {
+        answers_are =
+            ap (map answer_of) (take_more_set told i a lt)
+            ∙ (map_push answer_of (take i told) a
+            ∙ (ap₂ (λ (x : List Answer) (y : Answer). x ++ y ∷ []) h.answers_are (p.answer ∙ ap (λ (x : Standing). answer_to w x c) h.stands)
+            ∙ sym (ap (answers_of w s) more ∙ answers_push w s past c)));
+        stands = p.stands ∙ (ap (λ (x : Standing). step w x c) h.stands ∙ sym (ap (run w s) more ∙ run_push w s past c));
+        holds = p.holds ∙ (ap₂ (λ (x : Standing) (y : Buffers). after w x y c) h.stands h.holds ∙ sym (ap (buffers_after w s b) more ∙ buffers_push w s b past c));
+      };
+    }
 
 -- ---- how far a trace came
 
@@ -77,10 +75,6 @@ module _ (stops : Bool) (told : List CodeAnswer) (made : ℕ) (a : CodeAnswer) (
         before = λ q k l. old q k (omega arith);
         end = λ q. inr (made, omega arith, ap is_refused here ∙ p.1);
       }
-
--- all calls were made
-pub ends_all : (stops : Bool) (told : List CodeAnswer) (calls made : ℕ) → made ≡ calls → Quiet stops told made → Ends stops calls (map answer_of told) made
-ends_all stops told calls made e was = record { within = omega (arith, e); all = λ q. e; before = λ q k l. was q k (omega arith); end = λ q. inl e }
 
 -- the answers that were not written stay
 pub rest_more : {A : Type 0} (xs ys : List A) (i : ℕ) (a : A) → drop i xs ≡ drop i ys → drop (i + 1) (set xs i a) ≡ drop (i + 1) ys

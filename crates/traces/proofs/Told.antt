@@ -1,5 +1,5 @@
 -- Where a trace stands is told by its calls and answers.
-use Rattle.std.proofs.Common.{◌≡◌, ℕ, zero, suc, ◌⊎◌, List, [], ◌∷◌, length, take, Some, sym, refl, ap, ◌∙◌, inl, inr, ⊎_elim, arith}
+use Rattle.std.proofs.Common.{◌≡◌, ℕ, zero, suc, ◌⊎◌, List, [], ◌∷◌, length, take, Some, sym, refl, ap, ◌∙◌, inl, inr, ⊎_elim}
 use Rattle.refusals.specs.Codes.{Code}
 use Rattle.targets.specs.State.{TargetState}
 use Rattle.downloads.specs.Copies.{no_copies}

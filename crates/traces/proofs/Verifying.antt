@@ -1,5 +1,5 @@
 -- Verifying: when there is a verdict, and what it says.
-use Rattle.std.proofs.Common.{◌≡◌, ℕ, Bool, true, false, eqb, leb, List, Ok, Err, Result, ap, ◌∙◌, arith}
+use Rattle.std.proofs.Common.{◌≡◌, ℕ, Bool, true, false, eqb, leb, List, Ok, Err, Result, ap, ◌∙◌}
 use Rattle.std.proofs.lemmas.Bool.{cond-true, cond-false, eqb-true, eqb-false, eq-eqb, ne_eqb, leb-true, le-leb, lt-leb}
 use Rattle.refusals.specs.declared.Reason.TheVariants.{WrongBuffer, NoSuchPage}
 use Rattle.refusals.specs.declared.Layer.TheVariants.{Download}

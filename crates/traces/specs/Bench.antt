@@ -1,5 +1,5 @@
 -- A bench: what the calls of a trace on it share, where the trace stands, and what its buffers hold.
-use Rattle.std.specs.Prelude.{◌≡◌, ℕ, Bool, true, List, length, replicate, Result}
+use Rattle.std.specs.Prelude.{◌≡◌, ℕ, Bool, true, List, length, replicate}
 use Rattle.blocks.specs.Ciphers.{BlockMap}
 use Rattle.gost.specs.Keyed.{rows_in, words_in}
 use Rattle.sections.specs.Entries.{Described}
@@ -12,7 +12,7 @@ use Rattle.downloads.specs.Received.{body_in, marks_of, copies_of, stores, SameL
 use Rattle.traces.specs.Traces.{Setting, Call, Answer, Standing, step, answer_to, run, answers_of}
 use Rattle.traces.specs.Answers.{given_by}
 use Rattle.traces.specs.Buffers.{Buffers, buffers, after, buffers_after}
-use Rattle.traces.specs.Runs.{setting, stands_by}
+use Rattle.traces.specs.Runs.{setting, stands_by, Runs}
 
 -- what giving a block is answered, of what has been received
 abbrev pub given_from : BlockMap → Described → Received → ℕ → Answer
@@ -61,3 +61,15 @@ pub record PerformsAll (w : Setting) (s u : Standing) (b v : Buffers) (calls : L
   pub answers_are : answers ≡ answers_of w s calls
   pub stands : u ≡ run w s calls
   pub holds : v ≡ buffers_after w s b calls
+
+-- ---- the same on a bench, which leads from b to b' and from closed to closed'
+
+abbrev pub PerformsOn : {C T : Type 0} → (C → BlockMap) → (T → TargetState) → Described → Bool → Bool → Bench C T → Bench C T → Call → Answer → Type 0
+PerformsOn map state s closed closed' b b' c a = Performs (setting_on map s b) (stands_on state s closed b) (stands_on state s closed' b') (buffers_on b) (buffers_on b') c a
+
+abbrev pub PerformsAllOn : {C T : Type 0} → (C → BlockMap) → (T → TargetState) → Described → Bool → Bool → Bench C T → Bench C T → List Call → List Answer → Type 0
+PerformsAllOn map state s closed closed' b b' calls answers = PerformsAll (setting_on map s b) (stands_on state s closed b) (stands_on state s closed' b') (buffers_on b) (buffers_on b') calls answers
+
+-- from the opening of section s on
+abbrev pub RunsOn : {C T : Type 0} → (C → BlockMap) → (T → TargetState) → Described → Bool → Bench C T → Bench C T → List Call → List Answer → Type 0
+RunsOn map state s closed b b' calls answers = Runs (setting_on map s b) (state b.target.now) (cleared_on s b) calls answers (state b'.target.now) closed (buffers_on b')

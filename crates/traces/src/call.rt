@@ -26,6 +26,7 @@ pub enum Call<'a> {
 pub enum Answer {
     Done,
     /// The block that is handed over: the first `count` bytes.
+    // An array and a count: an answer is copied, and no heap is used.
     Plain { block: [u8; 16], count: usize },
     Verdict { verdict: Verdict },
     Refused { refusal: Refusal },

@@ -5,7 +5,7 @@ ghost use Rattle.blocks.specs.Bytes.{Bytes};
 ghost use Rattle.downloads.specs.Received.{body_in};
 ghost use Rattle.traces.specs.Traces.{OfBytes};
 ghost use Rattle.traces.specs.Meaning.{call_of, answer_of, section_of, closed_in};
-ghost use Rattle.traces.specs.Bench.{SameBench, Serves, Performs, setting_on, stands_on, buffers_on};
+ghost use Rattle.traces.specs.Bench.{SameBench, Serves, PerformsOn};
 
 use crate::answers::{Moved, on_close, on_frame, on_give, on_reopen, on_verify};
 use crate::call::{Bench, Call, Phase};
@@ -31,7 +31,7 @@ pub(crate) fn perform<C: BlockCipher, T: Target>(
     ensures section { section_of result.phase ≡ section_of phase }
     ensures same { SameBench bench.old bench.new }
     ensures bytes { OfBytes (call_of call.entry) }
-    ensures performs { Performs (setting_on C.BlockCipher.map (section_of phase) bench.old) (stands_on T.Target.state (section_of phase) (closed_in phase) bench.old) (stands_on T.Target.state (section_of phase) (closed_in result.phase) bench.new) (buffers_on bench.old) (buffers_on bench.new) (call_of call.entry) (answer_of result.answer) }
+    ensures performs { PerformsOn C.BlockCipher.map T.Target.state (section_of phase) (closed_in phase) (closed_in result.phase) bench.old bench.new (call_of call.entry) (answer_of result.answer) }
 {
     // With these come the laws of the cipher and of the target, and that the body holds bytes.
     let _n = bench.cipher.block_length();

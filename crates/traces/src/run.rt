@@ -12,8 +12,8 @@ ghost use Rattle.downloads.specs.States.{section_in as download_in};
 ghost use Rattle.downloads.specs.Received.{body_in, marks_of};
 ghost use Rattle.traces.specs.Traces.{AllOfBytes};
 ghost use Rattle.traces.specs.Meaning.{call_of, answer_of, section_of, closed_in, stops_at, section_in};
-ghost use Rattle.traces.specs.Runs.{run_answer, Unchanged, made_in, closed_to, Runs, Ends};
-ghost use Rattle.traces.specs.Bench.{SameBench, Serves, PerformsAll, setting_on, stands_on, buffers_on, cleared_on};
+ghost use Rattle.traces.specs.Runs.{run_answer, Unchanged, made_in, closed_to, Ends};
+ghost use Rattle.traces.specs.Bench.{SameBench, Serves, PerformsAllOn, RunsOn, buffers_on};
 
 use crate::call::{Answer, Bench, Call, Phase, Progress, Until};
 use crate::perform::perform;
@@ -40,7 +40,7 @@ fn run_calls<C: BlockCipher, T: Target>(
     ensures made { Ends (stops_at until) (length calls.now) (map answer_of answers.new) result.made }
     ensures rest { drop result.made answers.new ≡ drop result.made answers.old }
     ensures bytes { AllOfBytes (map call_of (take result.made calls.now)) }
-    ensures performs { PerformsAll (setting_on C.BlockCipher.map (section_of phase) bench.old) (stands_on T.Target.state (section_of phase) (closed_in phase) bench.old) (stands_on T.Target.state (section_of phase) (closed_in result.phase) bench.new) (buffers_on bench.old) (buffers_on bench.new) (map call_of (take result.made calls.now)) (map answer_of (take result.made answers.new)) }
+    ensures performs { PerformsAllOn C.BlockCipher.map T.Target.state (section_of phase) (closed_in phase) (closed_in result.phase) bench.old bench.new (map call_of (take result.made calls.now)) (map answer_of (take result.made answers.new)) }
 {
     let mut phase = phase;
     for (made, call) in calls.iter().enumerate() {
@@ -75,7 +75,6 @@ pub fn run<C: BlockCipher, T: Target>(
     listing: &Listing,
     number: u32,
     bench: &mut Bench<'_, C, T>,
-    // Beside one another, as the caller lends both: a call is read and its answer is written.
     calls: &[Call<'_>],
     answers: &mut [Answer],
     until: Until,
@@ -85,8 +84,9 @@ pub fn run<C: BlockCipher, T: Target>(
     ensures same { SameBench bench.old bench.new }
     ensures made { (s : Described) → answer section_in result ≡ Ok s → Ends (stops_at until) (length calls.now) (map answer_of answers.new) (made_in result) }
     ensures rest { drop (made_in result) answers.new ≡ drop (made_in result) answers.old }
-    ensures runs { (s : Described) → answer section_in result ≡ Ok s → Runs (setting_on C.BlockCipher.map s bench.old) (T.Target.state bench.old.target.now) (cleared_on s bench.old) (map call_of (take (made_in result) calls.now)) (map answer_of (take (made_in result) answers.new)) (T.Target.state bench.new.target.now) (closed_to result) (buffers_on bench.new) }
+    ensures runs { (s : Described) → answer section_in result ≡ Ok s → RunsOn C.BlockCipher.map T.Target.state s (closed_to result) bench.old bench.new (map call_of (take (made_in result) calls.now)) (map answer_of (take (made_in result) answers.new)) }
 {
+    // Two slices: calls are lent to be read, and the answers to be written; a refusal tells their lengths.
     if answers.len() != calls.len() {
         return Err(Refusal::new(Reason::WrongBuffer, 0, Layer::Download));
     }

@@ -1,6 +1,6 @@
-use Rattle.std.proofs.Common.{length, sym, refl, ap, ◌∙◌, subst}
+use Rattle.std.proofs.Common.{length, refl, ap, ◌∙◌}
 use Rattle.downloads.specs.Received.{body_in, marks_of}
-use Rattle.traces.specs.Traces.{OfBytes, answered, done}
+use Rattle.traces.specs.Traces.{answered, done}
 use Rattle.traces.specs.Meaning.{call_of, section_of, closed_in}
 use Rattle.traces.proofs.Performed.{as_came, marks_kept, body_kept, performs_frame, performs_erase, performs_close, performs_reopen, performs_verify, performs_give, performs_program}
 use Rattle.traces.proofs.perform.perform.Goals as goal
@@ -21,9 +21,6 @@ returns-in-Frame-clause-same g c =
       marks_long = ap length e.arrivals ∙ marks_kept s body marks c.in-Frame.first c.in-Frame.bytes.now (closed_in c.args.phase);
       page_long = refl;
     }
-
-pub returns-in-Frame-clause-bytes : goal.returns-in-Frame-clause-bytes
-returns-in-Frame-clause-bytes g c = subst OfBytes (sym (ap call_of c.in-Frame.is)) c.byte_count-bytes.ensures.bytes
 
 pub returns-in-Frame-clause-performs : goal.returns-in-Frame-clause-performs
 returns-in-Frame-clause-performs g c =

@@ -1,8 +1,8 @@
-use Rattle.std.proofs.Common.{◌+◌, ◌<◌, length, sym, ◌∙◌, arith}
+use Rattle.std.proofs.Common.{◌<◌, length, sym, ◌∙◌, arith}
 use Rattle.traces.specs.Meaning.{section_of, closed_in, stops_at}
 use Rattle.traces.specs.Bench.{setting_on, stands_on, buffers_on}
 use Rattle.traces.proofs.Benches.{same_then, same_performs}
-use Rattle.traces.proofs.Ran.{ran_more, ran_at, quiet_more, ends_there, rest_more}
+use Rattle.traces.proofs.Ran.{ran_more, quiet_more, ends_there, rest_more}
 use Rattle.traces.proofs.run.run_calls.Goals as goal
 
 pub returns-then-halts-clause-made : goal.returns-then-halts-clause-made
@@ -23,9 +23,8 @@ returns-then-halts-clause-performs g c =
     let room : c.loop-made.made < length told = omega (arith, c.loop-made-test.true, c.loop-made.auto.answers, c.requires.room) in
     let at = stands_on state s (closed_in a.phase) a.bench.now in
     let w = setting_on map s a.bench.now in
-    (ran_at w at (buffers_on a.bench.now) a.calls.now _ (c.loop-made.made + 1) _ _
     (ran_more w at (buffers_on a.bench.now) a.calls.now told c.loop-made.made _ c.perform-moved.result.answer _ _ _ _ was.4 c.loop-made-test.true room e.bytes
-    (same_performs map state a.bench.now c.loop-made.bench c.perform-moved.new.bench s (section_of c.loop-made.phase) (closed_in c.loop-made.phase) (closed_in c.perform-moved.result.phase) _ _ was.3 was.2 e.performs))).1
+    (same_performs map state a.bench.now c.loop-made.bench c.perform-moved.new.bench s (section_of c.loop-made.phase) (closed_in c.loop-made.phase) (closed_in c.perform-moved.result.phase) _ _ was.3 was.2 e.performs)).performs
 
 pub loop-made-preserved : goal.loop-made-preserved
 loop-made-preserved g c =
