@@ -92,14 +92,16 @@ fn say_places<M: Mark>(
         return Ok(());
     }
     print!(rt; "{heading}:")?;
-    let mut between = "";
-    for run in places.as_slice().chunk_by(|a, b| a.saturating_add(1) == *b) {
+    let runs = places.as_slice().chunk_by(|a, b| a.saturating_add(1) == *b);
+    for (i, run) in runs.enumerate() {
+        if i > 0 {
+            print!(rt; ",")?;
+        }
         match run {
-            [first, .., last] => print!(rt; "{between} {first} to {last}")?,
-            [place] => print!(rt; "{between} {place}")?,
+            [first, .., last] => print!(rt; " {first} to {last}")?,
+            [place] => print!(rt; " {place}")?,
             [] => {}
         }
-        between = ",";
     }
     println!(rt; "")?;
     Ok(())
@@ -113,13 +115,14 @@ fn say_marks<M: Mark>(
     legends: &[Legend<M>],
 ) -> anyhow::Result<()> {
     print!(rt; "{name}:")?;
-    let mut between = "";
-    for legend in legends {
+    for (i, legend) in legends.iter().enumerate() {
+        if i > 0 {
+            print!(rt; ",")?;
+        }
         let count = marks.iter().filter(|mark| **mark == legend.mark).count();
         let word = legend.word;
         let letter = legend.mark.letter();
-        print!(rt; "{between} {count} {word} ({letter})")?;
-        between = ",";
+        print!(rt; " {count} {word} ({letter})")?;
     }
     println!(rt; "")?;
     say_map(rt, marks)?;

@@ -45,6 +45,7 @@ pub struct Told {
 }
 
 /// Writes the first bytes of a block in hex.
+// Byte by byte: hex::encode allocates, and nothing here does.
 fn write_block<W: fmt::Write>(
     block: &[u8; 16],
     count: usize,
