@@ -14,6 +14,7 @@ use Rattle.sections.specs.Entries.{Described, fields_of, cipher_named, mode_name
 use Rattle.sections.specs.Seals.{sized, seal_answer, tagged}
 use Rattle.sections.specs.Written.{cipher_byte, mode_byte, entry_bytes}
 use Rattle.sections.proofs.Judged.{as_named}
+use Rattle.sections.proofs.Written.{five, cipher_back}
 use Rattle.packing.specs.declared.plan.PlannedMode.{PlannedMode}
 use Rattle.packing.specs.declared.plan.PlannedMode.TheVariants.{Codebook, Counter, Feedback}
 use Rattle.packing.specs.declared.plan.Plan.{Plan}
@@ -53,9 +54,6 @@ fields_by cipher mode bits page long first second tag = record {
   tag = tag;
 }
 
-five : (mk : ℕ → ℕ → ℕ → ℕ → ℕ → Fields) (a b c d e u v w x y : ℕ) → a ≡ u → b ≡ v → c ≡ w → d ≡ x → e ≡ y → mk a b c d e ≡ mk u v w x y
-five mk a b c d e u v w x y p q r s t = rw (p, q, r, s, t)
-
 by_mode : (cipher : CipherKind) (mode : PlannedMode) (bits page n tag offset : ℕ) → page < 65536 → n < 4294967296 → tag < 4294967296 →
     (sync_words mode).first < 256 ^ 8 → (sync_words mode).second < 256 ^ 8 →
     fields_of (entry_bytes (section_of (plan_of cipher mode bits page) n tag offset)) ≡ fields_for (plan_of cipher mode bits page) n tag
@@ -72,10 +70,6 @@ by_mode cipher (Feedback y) bits page n tag offset p l t f s =
 
 fields_back : (plan : Plan) (n tag offset : ℕ) → PlanFits plan → n < 4294967296 → tag < 4294967296 → fields_of (entry_bytes (section_of plan n tag offset)) ≡ fields_for plan n tag
 fields_back plan n tag offset f l t = by_mode plan.cipher plan.mode plan.bits plan.first_page n tag offset f.page l t f.first f.second
-
-cipher_back : (c : CipherKind) → Some c ≡ cipher_named (cipher_byte c)
-cipher_back Gost = refl
-cipher_back Kuznyechik = refl
 
 mode_back : (m : PlannedMode) → Some (mode_in m) ≡ mode_named (mode_byte (mode_in m))
 mode_back Codebook = refl

@@ -1,5 +1,6 @@
 -- The bytes of an entry.
-use Rattle.std.proofs.Common.{◌≡◌, ℕ, List, [], ◌∷◌, get_or, refl}
+use Rattle.std.proofs.Common.{◌≡◌, ℕ, List, set, replicate, refl}
+use borrow.Rule.Slice.PartMut.{put_mid}
 use Rattle.blocks.specs.Bytes.{bytes_of}
 use Rattle.modes.specs.declared.mode.Sync.{Sync}
 use Rattle.sections.specs.declared.kind.CipherKind.{CipherKind}
@@ -12,9 +13,7 @@ use Rattle.packing.specs.Plans.{mode_in, sync_words, section_of}
 -- an entry from its parts: the first page, the length, and the words of the sync, as bytes
 abbrev pub laid : ℕ → ℕ → ℕ → List ℕ → List ℕ → List ℕ → List ℕ → List ℕ
 laid c m bits p n f s =
-    c ∷ m ∷ bits ∷ 0 ∷ get_or p 0 0 ∷ get_or p 1 0 ∷ 0 ∷ 0 ∷ get_or n 0 0 ∷ get_or n 1 0 ∷ get_or n 2 0 ∷ get_or n 3 0
-    ∷ get_or f 0 0 ∷ get_or f 1 0 ∷ get_or f 2 0 ∷ get_or f 3 0 ∷ get_or f 4 0 ∷ get_or f 5 0 ∷ get_or f 6 0 ∷ get_or f 7 0
-    ∷ get_or s 0 0 ∷ get_or s 1 0 ∷ get_or s 2 0 ∷ get_or s 3 0 ∷ get_or s 4 0 ∷ get_or s 5 0 ∷ get_or s 6 0 ∷ get_or s 7 0 ∷ 0 ∷ 0 ∷ 0 ∷ 0 ∷ []
+    put_mid 20 8 (put_mid 12 8 (put_mid 8 4 (put_mid 4 2 (set (set (set (replicate 32 0) 0 c) 1 m) 2 bits) p) n) f) s
 
 by_mode : (cipher : CipherKind) (mode : PlannedMode) (bits page n : ℕ) →
     laid (cipher_byte cipher) (mode_byte (mode_in mode)) bits (bytes_of 2 page) (bytes_of 4 n) (bytes_of 8 (sync_words mode).first) (bytes_of 8 (sync_words mode).second)

@@ -1,20 +1,18 @@
 -- How a file is judged, by cases, and what a packed file is listed as.
-use Rattle.std.proofs.Common.{◌≡◌, ℕ, suc, ◌+◌, ◌*◌, ◌<◌, ◌≤◌, Bool, true, false, cond, not, ◌&&◌, eqb, leb, List, [], ◌∷◌, ◌++◌, map, length, get_or, take, drop, Some, None, Ok, Err, Option, Result, sym, refl, ap, ◌∙◌, ap₂, inl, inr, append_assoc, append-nil, arith, length-append}
-use Rattle.std.proofs.lemmas.List.{take-append-le, drop-append-le, take_all, drop_all}
+use Rattle.std.proofs.Common.{◌≡◌, ℕ, suc, ◌+◌, ◌*◌, ◌<◌, ◌≤◌, Bool, true, false, cond, not, ◌&&◌, eqb, leb, List, [], ◌∷◌, ◌++◌, map, length, get_or, take, drop, Ok, Err, Result, sym, refl, ap, ◌∙◌, ap₂, inl, inr, append_assoc, append-nil, arith, length-append}
 use Rattle.std.proofs.lemmas.Bool.{and_from, and_left, and_right, le-leb, lt-leb, leb-true, leb-false, eqb-true, eq-eqb, cases_Bool}
 use Rattle.std.specs.List.{AllByRecursion}
 use Rattle.refusals.specs.declared.Reason.TheVariants.{WrongSize, BadField, BadPages}
 use Rattle.refusals.specs.declared.Layer.TheVariants.{File}
 use Rattle.refusals.specs.Codes.{Code, refuse, code_of, then}
-use Rattle.blocks.specs.Bytes.{bytes_of}
-use Rattle.modes.specs.declared.mode.Sync.{Sync}
 use Rattle.modes.specs.Modes.{Chaining, deciphered}
 use Rattle.description.specs.Judge.{Described as Target}
 use Rattle.sections.specs.Entries.{Described, fields_of, judged_fields}
 use Rattle.sections.specs.Files.{pages_end, shares_any, paged, entry_of, next_section, listed_from, good_header, bodies_from, listed}
 use Rattle.sections.specs.Seals.{chaining_of}
-use Rattle.sections.specs.Written.{cipher_byte, mode_byte, sync_field, entry_bytes, body_of}
+use Rattle.sections.specs.Written.{entry_bytes, body_of}
 use Rattle.sections.proofs.Listed.{next_is, table_is, too_long}
+use Rattle.sections.proofs.Written.{past, fore, entry_length}
 use Rattle.packing.specs.declared.fault.Fault.{Fault}
 use Rattle.packing.specs.declared.fault.Fault.TheVariants.{Refused, Memory}
 use Rattle.packing.specs.Plans.{Work}
@@ -34,7 +32,7 @@ pub keys_are : (keys : List ℕ) (k : Spread) → Ok k ≡ keys_answer keys → 
 keys_are keys k h =
     elim (cases_Bool (eqb (length keys) 64)) [
       | inl l ↦ (let e = rw l at h in cc)
-      | inr l ↦ absurd (let e = rw l at h in let z : ◌≡◌ {A = ℕ} 0 1 = cc in omega arith)
+      | inr l ↦ absurd (let e = rw l at h in cc)
     ]
 
 pub too_few : (page_length page_count : ℕ) (m : Means) (ws : List Work) → length ws < 1 → packed_with page_length page_count m ws ≡ Err (refuse BadField 0 File)
@@ -57,12 +55,6 @@ fault_told meaning target keys ws k Memory h a b g = tt
 
 -- ---- a file that is listed
 
-past : (front rest : List ℕ) (n : ℕ) → length front ≡ n → drop n (front ++ rest) ≡ rest
-past front rest n h = drop-append-le n front rest (omega arith) ∙ ap (λ (x : List ℕ). x ++ rest) (drop_all n front (omega arith))
-
-fore : (front rest : List ℕ) (n : ℕ) → length front ≡ n → take n (front ++ rest) ≡ front
-fore front rest n h = take-append-le n front rest (omega arith) ∙ take_all n front (omega arith)
-
 section_long : (m : Means) (offset : ℕ) (w : Work) → (sealed_section m offset w).length ≡ length w.image
 unfolding sealed_section
 section_long m offset w = refl
@@ -75,16 +67,9 @@ chain_any : (m : Means) (offset : ℕ) (w : Work) → chaining_of (map_of m w) (
 unfolding sealed_section
 chain_any m offset w = refl
 
-with_sync : (s : Described) (sync : Option Sync) → length (cipher_byte s.cipher ∷ mode_byte s.mode ∷ s.bits ∷ 0 ∷ (bytes_of 2 s.first_page ++ (0 ∷ 0 ∷ (bytes_of 4 s.length ++ (sync_field sync ++ bytes_of 4 s.tag))))) ≡ 32
-with_sync s None = refl
-with_sync s (Some y) = refl
-
-entry_long : (s : Described) → length (entry_bytes s) ≡ 32
-entry_long s = with_sync s s.sync
-
 entries_long : (m : Means) (ws : List Work) → length (entries_of m ws) ≡ 32 * length ws
 entries_long m [] = refl
-entries_long m (w ∷ ws) = omega (arith, length-append (entry_bytes (sealed_section m 0 w)) (entries_of m ws), entry_long (sealed_section m 0 w), entries_long m ws)
+entries_long m (w ∷ ws) = omega (arith, length-append (entry_bytes (sealed_section m 0 w)) (entries_of m ws), entry_length (sealed_section m 0 w), entries_long m ws)
 
 abbrev total : List Work → ℕ
 total [] = 0
@@ -112,7 +97,7 @@ paged_from page_length page_count m file front tail i offset earlier (w ∷ ws) 
     let s = sealed_section m offset w in
     let n : ℕ = length w.image in
     let own : List ℕ = entry_bytes (sealed_section m 0 w) in
-    let wide : length own ≡ 32 = entry_long (sealed_section m 0 w) in
+    let wide : length own ≡ 32 = entry_length (sealed_section m 0 w) in
     let split : file ≡ front ++ (own ++ (entries_of m ws ++ tail)) = e ∙ ap (λ (x : List ℕ). front ++ x) (append_assoc own (entries_of m ws) tail) in
     let at : entry_of i file ≡ entry_bytes s =
     ap (λ (x : List ℕ). take 32 (drop (4 + 32 * i) x)) split
@@ -184,8 +169,8 @@ as_listed page_length page_count m ws file r p a b f h =
 
 same_listed : (b : Bool) (r : Result Unit Code) (e : Code) (ss got : List Described) → Ok got ≡ cond b (then r (λ u. Ok ss)) (Err e) → got ≡ ss
 same_listed true (Ok u) e ss got h = cc
-same_listed true (Err x) e ss got h = absurd (let z : ◌≡◌ {A = ℕ} 0 1 = cc in omega arith)
-same_listed false r e ss got h = absurd (let z : ◌≡◌ {A = ℕ} 0 1 = cc in omega arith)
+same_listed true (Err x) e ss got h = absurd (cc)
+same_listed false r e ss got h = absurd (cc)
 
 -- the body of each section opens to its image
 opened : (m : Means) (offset : ℕ) (file front : List ℕ) (ws : List Work) → file ≡ front ++ bodies_of m ws → length front ≡ offset → AllByRecursion (λ w. Kept m w) ws → Opened m offset file ws
@@ -224,5 +209,5 @@ fault_known Memory known k = k
 pub keys_long : (keys : List ℕ) (k : Spread) → Ok k ≡ keys_answer keys → length keys ≡ 64
 keys_long keys k e = elim (cases_Bool (eqb (length keys) 64)) [
   | inl t ↦ eqb-true (length keys) 64 t
-  | inr t ↦ absurd (let f = rw t at e in let z : ◌≡◌ {A = ℕ} 0 1 = cc in omega arith)
+  | inr t ↦ absurd (let f = rw t at e in cc)
 ]

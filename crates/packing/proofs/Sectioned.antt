@@ -1,11 +1,12 @@
 -- What sealing a planned section comes to.
 use Rattle.std.proofs.Common.{◌≡◌, ℕ, ◌<◌, ◌≤◌, Bool, true, false, cond, leb, List, length, take, Ok, Err, vec_items, Result, sym, refl, ap, ◌∙◌, subst, ap₂, inl, inr, arith, length-take}
 use Rattle.std.proofs.lemmas.List.{take_all}
-use Rattle.std.proofs.lemmas.Bool.{cases_Bool, cases_lt, and_parts, leb-true, lt-leb, and_left, and_right}
+use Rattle.std.proofs.lemmas.Bool.{cases_Bool, cases_lt, and_parts, leb-true, lt-leb, and_left, and_right, false≢true}
+use Rattle.std.specs.Result.{MatchResult, IsErrAnd, is_ok}
 use Rattle.refusals.specs.declared.Reason.TheVariants.{BadField, BadLength}
 use Rattle.refusals.specs.declared.Layer.TheVariants.{File}
 use Rattle.refusals.specs.declared.Refusal.{Refusal}
-use Rattle.refusals.specs.Codes.{Code, refuse, code_of}
+use Rattle.refusals.specs.Codes.{Code, refuse, code_of, outcome}
 use Rattle.imitovstavka.specs.Chain.{imitovstavka}
 use Rattle.modes.specs.declared.mode.Mode.{Mode}
 use Rattle.modes.specs.Calls.{whole_in}
@@ -96,7 +97,18 @@ refused_as place w image entry body e f g h k =
     ∙ (ap (λ (r : Result Described Code). placed place (done r)) (sym (answer_is w image entry body g))
     ∙ (ap (λ (r : Result Unit Code). placed place r) (sym h) ∙ ap (λ (x : Refusal). Err (code_of x)) (sym k)))
 
+-- what a refusal was before it got its place
+pub placed_from : (r m : Result Unit Refusal) (Q : Refusal → Refusal → Type 0) (place : ℕ) (f : Refusal) → m ≡ Err f → MatchResult r (λ u. m ≡ Ok u) (λ e. IsErrAnd m (Q e)) →
+    ((e z : Refusal) → Q e z → z ≡ record { reason = e.reason; place = place; layer = e.layer }) →
+    (e : Refusal) × (r ≡ Err e) × (f ≡ record { reason = e.reason; place = place; layer = e.layer })
+placed_from (Ok u) m Q place f is h q = absurd (cc (is, h))
+placed_from (Err e) m Q place f is h q = (e, refl, q e f (subst (λ (x : Result Unit Refusal). IsErrAnd x (Q e)) is h))
+
 -- ---- sealed
+
+pub unrefused : (r : Result Unit Refusal) → true ≡ is_ok r → r ≡ Ok tt
+unrefused (Ok u) h = refl
+unrefused (Err e) h = absurd (false≢true (sym h))
 
 record Passed (plan : Plan) (n : ℕ) : Type 0 where
   pub good_plan_lem : good_plan plan ≡ true
@@ -107,22 +119,22 @@ passed plan n h =
     elim (cases_Bool (good_plan plan)) [
       | inl g ↦ elim (cases_Bool (good_length plan.cipher (mode_in plan.mode) n)) [
         | inl l ↦ record { good_plan_lem = g; fit_length = l }
-        | inr l ↦ absurd (let k = rw (g, l) at h in let z : ◌≡◌ {A = ℕ} 0 1 = cc in omega arith)
+        | inr l ↦ absurd (let k = rw (g, l) at h in cc)
       ]
-      | inr g ↦ absurd (let k = rw g at h in let z : ◌≡◌ {A = ℕ} 0 1 = cc in omega arith)
+      | inr g ↦ absurd (let k = rw g at h in cc)
     ]
 
 drafted_ok : (plan : Plan) (n : ℕ) → Passed plan n → drafted plan n ≡ Ok (section_of plan n 0 0)
 drafted_ok plan n p = rw (p.good_plan_lem, p.fit_length)
 
-pub sealed_as : (m : Means) (place : ℕ) (w : Work) (image entry body entry_new body_new : List ℕ) (s : Sealed) → Given w image entry body →
-    SealedBy (map_of m w) (block_length w.plan.cipher) m.rows m.keys.tag image entry body (Ok tt) entry_new body_new → length body_new ≡ length body →
+pub sealed_as : (m : Means) (place : ℕ) (w : Work) (image entry body : List ℕ) (r : Result Unit Refusal) (entry_new body_new : List ℕ) (s : Sealed) → Given w image entry body → r ≡ Ok tt →
+    SealedBy (map_of m w) (block_length w.plan.cipher) m.rows m.keys.tag image entry body r entry_new body_new → length body_new ≡ length body →
     s.entry ≡ entry_new → vec_items s.body ≡ body_new → SealedAs m place w s
 unfolding fitting sealed_section sealed_body
-sealed_as m place w image entry body entry_new body_new s g h l e b =
+sealed_as m place w image entry body r entry_new body_new s g ok_r h l e b =
     let plan = w.plan in
     let made = answer_is w image entry body g in
-    let p = passed plan (length (part w)) (h.answer ∙ ap done made) in
+    let p = passed plan (length (part w)) (sym (ap outcome ok_r) ∙ (h.answer ∙ ap done made)) in
     let whole : part w ≡ w.image = part_whole plan.cipher (mode_in plan.mode) w p.fit_length in
     let same : image ≡ w.image = g.image_is ∙ whole in
     let n : ℕ = length w.image in

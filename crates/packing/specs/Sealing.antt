@@ -5,14 +5,16 @@ use Rattle.refusals.specs.declared.Layer.TheVariants.{File}
 use Rattle.refusals.specs.Codes.{Code, refuse}
 use Rattle.blocks.specs.Ciphers.{BlockMap}
 use Rattle.gost.specs.Tables.{Rows}
+use Rattle.gost.specs.Cipher.{rows_of}
 use Rattle.imitovstavka.specs.Chain.{imitovstavka}
 use Rattle.modes.specs.Modes.{enciphered}
 use Rattle.sections.specs.Entries.{Described, good_tag, good_sync, good_length}
 use Rattle.sections.specs.Seals.{chaining_of}
 use Rattle.sections.specs.Written.{Part}
 use Rattle.packing.specs.declared.plan.Plan.{Plan}
+use Rattle.packing.specs.declared.sealer.Sealer.{Sealer}
 use Rattle.packing.specs.Plans.{Work, mode_in, sync_words, section_of}
-use Rattle.keys.specs.Keys.{Spread}
+use Rattle.keys.specs.Keys.{Spread, spread_in}
 use Rattle.packing.specs.Keys.{cipher_of}
 
 -- 1 to 32 bits, and a sync as its cipher and mode take it
@@ -31,6 +33,9 @@ fitting place w =
 pub record Means : Type 0 where
   pub rows : Rows
   pub keys : Spread
+
+abbrev pub means_in : Sealer → Means
+means_in s = record { rows = rows_of s.table.now; keys = spread_in s.keys.now }
 
 -- the section of a plan for its image, its body at an offset
 unfoldable pub sealed_section : Means → ℕ → Work → Described

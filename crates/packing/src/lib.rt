@@ -15,6 +15,7 @@ mod entry;
 pub mod fault;
 mod filling;
 pub mod plan;
+mod sealer;
 mod section;
 
 ghost use Rattle.std.specs.Prelude.{◌≡◌, ◌≤◌, map, length, IfOk, vec_items};
@@ -25,10 +26,10 @@ ghost use Rattle.packing.specs.Laws.{Holds};
 
 use description::parts::Description;
 use fault::Fault;
-use filling::fill;
 use keys::SpreadKeys;
 use plan::Planned;
 use refusals::{Layer, Reason, Refusal};
+use sealer::Sealer;
 use sections::file::list;
 use std::alloc::Global;
 
@@ -47,10 +48,14 @@ pub fn pack(
     ensures holds { IfOk result (λ v. Holds (meaning_of target.now) keys.now (map work_of planned.now) v.items) }
 {
     let keys = SpreadKeys::spread(keys)?;
-    if planned.is_empty() || planned.len() > 8 {
+    if !(1..=8).contains(&planned.len()) {
         return Err(Fault::Refused(Refusal::new(Reason::BadField, 0, Layer::File)));
     }
-    let file = fill(heap, planned, &keys, &target.table)?;
+    let sealer = Sealer {
+        keys: &keys,
+        table: &target.table,
+    };
+    let file = sealer.fill(heap, planned)?;
     list(file.as_slice(), target.page_length, target.page_count)?;
     Ok(file)
 }

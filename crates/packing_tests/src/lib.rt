@@ -15,7 +15,6 @@ mod tests {
     use packing::plan::{Plan, Planned, PlannedMode};
     use sections::file::list;
     use sections::kind::CipherKind;
-    use sections::listing::Listing;
     use sections::section::Section;
     use std::alloc::Global;
     use std::process::Abort;
@@ -49,10 +48,7 @@ mod tests {
     };
 
     fn target(text: &[u8]) -> Result<Description, Fail> {
-        match describe(text) {
-            Ok(target) => Ok(target),
-            Err(_) => Err(Fail::new("no target")),
-        }
+        describe(text).map_err(|_| Fail::new("no target"))
     }
 
     fn plan(cipher: CipherKind, mode: PlannedMode, bits: u8, first_page: u16) -> Plan {
@@ -103,14 +99,8 @@ mod tests {
     }
 
     fn listed(file: &[u8], number: u32) -> Result<Section, Fail> {
-        let listing: Listing = match list(file, 16, 6) {
-            Ok(listing) => listing,
-            Err(_) => return Err(Fail::new("not listed")),
-        };
-        match listing.section(number) {
-            Ok(section) => Ok(section),
-            Err(_) => Err(Fail::new("no section")),
-        }
+        let listing = list(file, 16, 6).map_err(|_| Fail::new("not listed"))?;
+        listing.section(number).map_err(|_| Fail::new("no section"))
     }
 
     #[test]
@@ -208,10 +198,8 @@ mod tests {
             return Err(Fail::new("eight sections"));
         };
         assert_eq!(rt; file.len(), 4 + 8 * 32 + 8 * 9);
-        for _ in 0..1u8 {
-            let good = plan(CipherKind::Gost, PlannedMode::Counter(EIGHT), 8, 0);
-            planned.push(sevens(heap, good, 9)?)?;
-        }
+        let ninth = plan(CipherKind::Gost, PlannedMode::Counter(EIGHT), 8, 0);
+        planned.push(sevens(heap, ninth, 9)?)?;
         // nine sections
         refusal(&rt, pack(heap, &small, &KEYS, planned.as_slice()), 5, 0)
     }
@@ -244,8 +232,7 @@ mod tests {
             (plan(CipherKind::Gost, eight, 8, 2), 9, 7),
             (plan(CipherKind::Gost, eight, 8, 65535), 9, 7),
         ];
-        for i in 0..13usize {
-            let (plan, size, number) = plans[i];
+        for (plan, size, number) in plans {
             second(&rt, rt.alloc(), plan, size, number)?;
         }
         Ok(())

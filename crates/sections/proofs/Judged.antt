@@ -1,11 +1,6 @@
 -- What fields that were accepted keep.
-use Rattle.std.proofs.Common.{◌≡◌, ℕ, ◌^◌, ◌≤◌, true, false, ◌&&◌, eqb, ltb, leb, Some, None, Ok, Err, Option, Result, refl, ap}
+use Rattle.std.proofs.Common.{◌≡◌, ℕ, ◌^◌, ◌≤◌, true, ◌&&◌, eqb, ltb, leb, Some, Ok, Option, refl}
 use Rattle.std.proofs.lemmas.Bool.{and_parts, leb-true}
-use Rattle.refusals.specs.declared.Reason.{Reason}
-use Rattle.refusals.specs.declared.Reason.TheVariants.{BadField, BadLength}
-use Rattle.refusals.specs.declared.Layer.TheVariants.{File}
-use Rattle.refusals.specs.declared.Refusal.{Refusal}
-use Rattle.refusals.specs.Codes.{Code, refuse, code_of}
 use Rattle.modes.specs.declared.mode.Mode.{Mode}
 use Rattle.modes.specs.declared.mode.Mode.TheVariants.{Codebook, Counter, Feedback}
 use Rattle.modes.specs.declared.mode.Sync.{Sync}
@@ -49,27 +44,9 @@ mode_ok n mode sync bytes a w = rw (a, w)
 
 -- ---- how fields are judged, by cases
 
-pub no_cipher : (place offset : ℕ) (f : Fields) → None ≡ cipher_named f.cipher → judged_fields place offset f ≡ Err (refuse BadField place File)
-unfolding judged_fields
-no_cipher place offset f h = rw (← h)
-
-pub no_mode : (place offset : ℕ) (f : Fields) (cipher : CipherKind) → Some cipher ≡ cipher_named f.cipher → None ≡ mode_named f.mode → judged_fields place offset f ≡ Err (refuse BadField place File)
-unfolding judged_fields
-no_mode place offset f cipher h k = rw (← h, ← k)
-
 pub as_named : (place offset : ℕ) (f : Fields) (cipher : CipherKind) (mode : Mode) → Some cipher ≡ cipher_named f.cipher → Some mode ≡ mode_named f.mode → judged_fields place offset f ≡ judged_as cipher mode place offset f
 unfolding judged_fields
 as_named place offset f cipher mode h k = rw (← h, ← k)
 
-pub bad_fields : (place offset : ℕ) (f : Fields) (cipher : CipherKind) (mode : Mode) → false ≡ good_fields cipher mode f → judged_as cipher mode place offset f ≡ Err (refuse BadField place File)
-bad_fields place offset f cipher mode h = rw (← h)
-
-pub bad_length : (place offset : ℕ) (f : Fields) (cipher : CipherKind) (mode : Mode) → true ≡ good_fields cipher mode f → false ≡ good_length cipher mode f.length → judged_as cipher mode place offset f ≡ Err (refuse BadLength place File)
-bad_length place offset f cipher mode h k = rw (← h, ← k)
-
 pub good : (place offset : ℕ) (f : Fields) (cipher : CipherKind) (mode : Mode) → true ≡ good_fields cipher mode f → true ≡ good_length cipher mode f.length → judged_as cipher mode place offset f ≡ Ok (described cipher mode f offset)
 good place offset f cipher mode h k = rw (← h, ← k)
-
--- a refusal as it is known outside
-pub told : {X : Type 0} (e : Refusal) (why : Reason) (place : ℕ) → e ≡ record { reason = why; place = place; layer = File } → ◌≡◌ {A = Result X Code} (Err (code_of e)) (Err (refuse why place File))
-told {X} e why place h = ap (λ (r : Refusal). Err (code_of r)) h

@@ -1,9 +1,8 @@
 -- What a section that may be sealed keeps.
-use Rattle.std.proofs.Common.{◌≡◌, ℕ, true, false, ◌&&◌, eqb, List, [], ◌∷◌, ◌++◌, length, take, set, Some, None, Ok, Err, Option, Result, sym, refl, ap, ◌∙◌, subst, inl, inr, arith}
-use Rattle.std.proofs.lemmas.Bool.{and_parts, eqb-true, eq-eqb, ne_eqb, cases_Bool}
-use Rattle.refusals.specs.declared.Reason.TheVariants.{WrongBuffer}
-use Rattle.refusals.specs.declared.Layer.TheVariants.{File}
-use Rattle.refusals.specs.Codes.{Code, refuse}
+use Rattle.std.proofs.Common.{◌≡◌, ℕ, true, ◌&&◌, eqb, List, ◌++◌, length, take, Some, None, Ok, Option, Result, sym, refl, ap, ◌∙◌, subst, inl, inr, append-nil}
+use borrow.Rule.Slice.PartMut.{put_mid}
+use Rattle.std.proofs.lemmas.Bool.{and_parts, eqb-true, cases_Bool}
+use Rattle.refusals.specs.Codes.{Code}
 use Rattle.blocks.specs.Bytes.{Bytes}
 use Rattle.blocks.specs.Ciphers.{BlockMap}
 use Rattle.blocks.proofs.Spelled.{spelled_all}
@@ -32,15 +31,15 @@ as_good place offset f s cipher mode n h =
     elim (cases_Bool (good_fields cipher mode f)) [
       | inl g ↦ elim (cases_Bool (good_length cipher mode f.length)) [
         | inl l ↦ (let k = rw (g, l) at h in record { cipher = cipher; mode = mode; named_as = n; same = cc; fields = g; length = l })
-        | inr l ↦ absurd (let k = rw (g, l) at h in let z : ◌≡◌ {A = ℕ} 0 1 = cc in omega arith)
+        | inr l ↦ absurd (let k = rw (g, l) at h in cc)
       ]
-      | inr g ↦ absurd (let k = rw g at h in let z : ◌≡◌ {A = ℕ} 0 1 = cc in omega arith)
+      | inr g ↦ absurd (let k = rw g at h in cc)
     ]
 
 by_names : (place offset : ℕ) (f : Fields) (s : Described) (a : Option CipherKind) (b : Option Mode) → a ≡ cipher_named f.cipher →
     Ok s ≡ named place a (λ cipher. named place b (λ mode. judged_as cipher mode place offset f)) → Accepted place offset f s
-by_names place offset f s None b e h = absurd (let z : ◌≡◌ {A = ℕ} 0 1 = cc in omega arith)
-by_names place offset f s (Some cipher) None e h = absurd (let z : ◌≡◌ {A = ℕ} 0 1 = cc in omega arith)
+by_names place offset f s None b e h = absurd cc
+by_names place offset f s (Some cipher) None e h = absurd cc
 by_names place offset f s (Some cipher) (Some mode) e h = as_good place offset f s cipher mode e h
 
 pub accepted : (place offset : ℕ) (f : Fields) (s : Described) → Ok s ≡ judged_fields place offset f → Accepted place offset f s
@@ -77,35 +76,22 @@ ready n entry image body s h =
     elim (cases_Bool (eqb (length entry) 32)) [
       | inl l ↦ elim (cases_Bool (good_buffers n (fields_of entry) image body)) [
         | inl g ↦ (let k = rw (l, g) at h in ready_from n entry image body s (eqb-true (length entry) 32 l) g (accepted 0 0 (untagged (fields_of entry)) s k))
-        | inr g ↦ absurd (let k = rw (l, g) at h in let z : ◌≡◌ {A = ℕ} 0 1 = cc in omega arith)
+        | inr g ↦ absurd (let k = rw (l, g) at h in cc)
       ]
-      | inr l ↦ absurd (let k = rw l at h in let z : ◌≡◌ {A = ℕ} 0 1 = cc in omega arith)
+      | inr l ↦ absurd (let k = rw l at h in cc)
     ]
-
--- ---- how a sealing is judged, by cases
-
-pub wrong_entry : (n : ℕ) (entry : List ℕ) (image body : ℕ) → (length entry ≡ 32 → ⊥) → seal_answer n entry image body ≡ Err (refuse WrongBuffer 0 File)
-unfolding seal_answer
-wrong_entry n entry image body h = rw (ne_eqb (length entry) 32 h)
-
-pub wrong_buffers : (n : ℕ) (entry : List ℕ) (image body : ℕ) → length entry ≡ 32 → false ≡ good_buffers n (fields_of entry) image body → seal_answer n entry image body ≡ Err (refuse WrongBuffer 0 File)
-unfolding seal_answer
-wrong_buffers n entry image body h g = rw (eq-eqb (length entry) 32 h, ← g)
-
-pub judged_is : (n : ℕ) (entry : List ℕ) (image body : ℕ) → length entry ≡ 32 → true ≡ good_buffers n (fields_of entry) image body → seal_answer n entry image body ≡ judged_fields 0 0 (untagged (fields_of entry))
-unfolding seal_answer
-judged_is n entry image body h g = rw (eq-eqb (length entry) 32 h, ← g)
 
 -- ---- the tag in its place
 
-pub tag_put : (e : List ℕ) (a b c d : ℕ) → length e ≡ 32 → set (set (set (set e 28 a) 29 b) 30 c) 31 d ≡ take 28 e ++ (a ∷ b ∷ c ∷ d ∷ [])
-tag_put e a b c d h =
-    subst (λ (x : List ℕ). set (set (set (set x 28 a) 29 b) 30 c) 31 d ≡ take 28 x ++ (a ∷ b ∷ c ∷ d ∷ [])) (spelled_all 32 e h) refl
+pub tag_put : (e t : List ℕ) → length e ≡ 32 → put_mid 28 4 e t ≡ take 28 e ++ t
+tag_put e t h = subst (λ (x : List ℕ). put_mid 28 4 x t ≡ take 28 x ++ t) (spelled_all 32 e h) (rw (append-nil t))
 
 -- ---- what sealing leaves
 
-pub body_is : (map : BlockMap) (s : Described) (image : List ℕ) → mode_answer map.size s.mode s.sync (length image) ≡ Ok tt → text_after map s.mode s.sync image ≡ enciphered (chaining_of map s) image
-body_is map s image h = rw h
+pub made_is : (map : BlockMap) (entry image was : List ℕ) (s : Described) (text made : List ℕ) → Ok s ≡ seal_answer map.size entry (length image) (length was) →
+    text ≡ image → made ≡ text_after map s.mode s.sync text → made ≡ enciphered (chaining_of map s) image
+made_is map entry image was s text made ok e h =
+    let agreed = (ready map.size entry (length image) (length was) s ok).agreed in h ∙ (ap (λ (x : List ℕ). text_after map s.mode s.sync x) e ∙ rw agreed)
 
 pub opened : (map : BlockMap) (s : Described) (image : List ℕ) → Bytes image → Undo (chaining_of map s) (length image) → (body : List ℕ) → body ≡ enciphered (chaining_of map s) image → Opens (chaining_of map s) image body
 opened map s image b u body e = record {

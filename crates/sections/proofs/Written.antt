@@ -1,9 +1,9 @@
 -- Listing what was written.
-use Rattle.std.proofs.Common.{◌≡◌, ℕ, suc, ◌+◌, ◌*◌, ◌^◌, ◌<◌, ◌≤◌, true, false, ◌&&◌, ltb, leb, List, [], ◌∷◌, ◌++◌, map, length, take, drop, Some, None, Ok, Option, Result, sym, refl, ap, ◌∙◌, ap₂, inl, inr, append_assoc, append-nil, arith, length-append, pow_mono}
+use Rattle.std.proofs.Common.{◌≡◌, ℕ, suc, ◌+◌, ◌*◌, ◌^◌, ◌<◌, ◌≤◌, true, false, ◌&&◌, ltb, leb, List, [], ◌∷◌, ◌++◌, map, length, take, drop, Some, None, Ok, Option, Result, sym, refl, ap, ◌∙◌, subst, ap₂, inl, inr, append_assoc, append-nil, arith, length-append, pow_mono}
 use Rattle.std.specs.List.{AllByRecursion}
-use Rattle.std.proofs.lemmas.List.{take-append-le, drop-append-le, take_all, drop_all}
+use Rattle.std.proofs.Math.Seq.{take-append_seam, drop-append_seam}
 use Rattle.std.proofs.lemmas.Bool.{and_from, and_left, and_right, or_from, lt-ltb, le-ltb, le-leb, eq-eqb, false≢true}
-use Rattle.refusals.specs.Codes.{Code}
+use Rattle.refusals.specs.Codes.{Code, then}
 use Rattle.blocks.specs.Bytes.{word, bytes_of}
 use Rattle.blocks.proofs.Words.{word_bytes}
 use Rattle.modes.specs.declared.mode.Mode.{Mode}
@@ -15,10 +15,10 @@ use Rattle.sections.specs.declared.kind.CipherKind.TheVariants.{Gost, Kuznyechik
 use Rattle.sections.specs.declared.fields.Fields.{Fields}
 use Rattle.sections.specs.Images.{block_length, allowed_image}
 use Rattle.sections.specs.Entries.{Described, fields_of, cipher_named, mode_named, good_tag, good_sync, sync_in, good_fields, good_length, described, judged_fields}
-use Rattle.sections.specs.Files.{pages_end, shares, shares_any, paged, then, entry_of, next_section, listed_from, good_header, bodies_from}
+use Rattle.sections.specs.Files.{pages_end, shares, shares_any, entry_of, next_section, listed_from, good_header, bodies_from}
 use Rattle.sections.specs.Written.{Part, cipher_byte, mode_byte, sync_field, entry_bytes, entries, bodies, written, SyncFits, Apart, Good, Laid, body_of, ListsWritten}
 use Rattle.sections.proofs.Judged.{as_named, good}
-use Rattle.sections.proofs.Listed.{next_is, unshared, table_is}
+use Rattle.sections.proofs.Listed.{next_good, table_is}
 
 -- ---- an entry is read back
 
@@ -30,11 +30,11 @@ abbrev second_in : Option Sync → ℕ
 second_in None = 0
 second_in (Some s) = s.second
 
-cipher_back : (c : CipherKind) → Some c ≡ cipher_named (cipher_byte c)
+pub cipher_back : (c : CipherKind) → Some c ≡ cipher_named (cipher_byte c)
 cipher_back Gost = refl
 cipher_back Kuznyechik = refl
 
-mode_back : (m : Mode) → Some m ≡ mode_named (mode_byte m)
+pub mode_back : (m : Mode) → Some m ≡ mode_named (mode_byte m)
 mode_back Codebook = refl
 mode_back Counter = refl
 mode_back Feedback = refl
@@ -84,7 +84,7 @@ fields_by s page long first second tag = record {
 abbrev fields_in : Described → Option Sync → Fields
 fields_in s sync = fields_by s s.first_page s.length (first_in sync) (second_in sync) s.tag
 
-five : (mk : ℕ → ℕ → ℕ → ℕ → ℕ → Fields) (a b c d e u v w x y : ℕ) → a ≡ u → b ≡ v → c ≡ w → d ≡ x → e ≡ y → mk a b c d e ≡ mk u v w x y
+pub five : (mk : ℕ → ℕ → ℕ → ℕ → ℕ → Fields) (a b c d e u v w x y : ℕ) → a ≡ u → b ≡ v → c ≡ w → d ≡ x → e ≡ y → mk a b c d e ≡ mk u v w x y
 five mk a b c d e u v w x y p q r s t = rw (p, q, r, s, t)
 
 fields_back : (s : Described) (sync : Option Sync) → s.first_page < 65536 → s.length < 4294967296 → s.tag < 4294967296 → SyncFits s.cipher sync → fields_of (bytes_with s sync) ≡ fields_in s sync
@@ -134,14 +134,14 @@ with_length : (s : Described) (sync : Option Sync) → length (bytes_with s sync
 with_length s None = refl
 with_length s (Some y) = refl
 
-entry_length : (s : Described) → length (entry_bytes s) ≡ 32
+pub entry_length : (s : Described) → length (entry_bytes s) ≡ 32
 entry_length s = with_length s s.sync
 
-past : (front rest : List ℕ) (n : ℕ) → length front ≡ n → drop n (front ++ rest) ≡ rest
-past front rest n h = drop-append-le n front rest (omega arith) ∙ ap (λ (x : List ℕ). x ++ rest) (drop_all n front (omega arith))
+pub past : (front rest : List ℕ) (n : ℕ) → length front ≡ n → drop n (front ++ rest) ≡ rest
+past front rest n h = subst (λ (k : ℕ). drop k (front ++ rest) ≡ rest) h (drop-append_seam front rest)
 
-fore : (front rest : List ℕ) (n : ℕ) → length front ≡ n → take n (front ++ rest) ≡ front
-fore front rest n h = take-append-le n front rest (omega arith) ∙ take_all n front (omega arith)
+pub fore : (front rest : List ℕ) (n : ℕ) → length front ≡ n → take n (front ++ rest) ≡ front
+fore front rest n h = subst (λ (k : ℕ). take k (front ++ rest) ≡ front) h (take-append_seam front rest)
 
 next_written : (page_length page_count : ℕ) (file front tail : List ℕ) (i offset : ℕ) (earlier : List Described) (p : Part) →
     file ≡ front ++ (entry_bytes p.section ++ tail) → length front ≡ 4 + 32 * i → Good page_length page_count offset earlier p →
@@ -155,9 +155,7 @@ next_written page_length page_count file front tail i offset earlier p e l g =
     let judged : judged_fields (i + 1) offset (fields_of (entry_of i file)) ≡ Ok s =
     ap (λ (x : List ℕ). judged_fields (i + 1) offset (fields_of x)) entry
     ∙ (ap (λ (o : ℕ). judged_fields (i + 1) o (fields_of (entry_bytes s))) (sym g.place) ∙ judged_back page_length page_count offset earlier p (i + 1) g) in
-    next_is page_length page_count file i offset earlier room
-    ∙ (ap (λ (r : Result Described Code). then r (paged page_length page_count (i + 1) earlier)) judged
-    ∙ unshared page_length page_count (i + 1) earlier s g.target (sym (all_apart page_length s earlier g.apart)))
+    next_good page_length page_count file i offset earlier s room judged g.target (all_apart page_length s earlier g.apart)
 
 abbrev total : List Part → ℕ
 total [] = 0

@@ -1,9 +1,10 @@
 -- A download file: a header of four bytes, one entry of 32 bytes for each section, and the bodies in
 -- order, without gaps, to the file's end. The first refusal is the answer.
-use Rattle.std.specs.Prelude.{ℕ, zero, suc, ◌+◌, ◌*◌, Bool, false, cond, not, ◌&&◌, ◌||◌, List, [], ◌∷◌, ◌++◌, length, take, drop, Some, None, Ok, Err, Option, Result, ◌==◌, nat_le, nat_lt, slice_index}
+use Rattle.std.specs.Prelude.{ℕ, zero, suc, ◌+◌, ◌*◌, Bool, cond, not, ◌&&◌, List, [], ◌∷◌, ◌++◌, length, take, drop, Some, None, Ok, Err, Option, Result, ◌==◌, nat_le, nat_lt, slice_index}
+use Rattle.std.specs.List.{list_any, slice_get}
 use Rattle.refusals.specs.declared.Reason.TheVariants.{WrongSize, BadField, BadPages, BodiesEnd, WrongBuffer}
 use Rattle.refusals.specs.declared.Layer.TheVariants.{File}
-use Rattle.refusals.specs.Codes.{Code, refuse}
+use Rattle.refusals.specs.Codes.{Code, refuse, then}
 use Rattle.sections.specs.Images.{pages_for}
 use Rattle.sections.specs.Entries.{Described, fields_of, judged_fields}
 
@@ -16,17 +17,12 @@ abbrev pub shares : ℕ → Described → Described → Bool
 shares page_length s t = nat_lt s.first_page (pages_end page_length t) && nat_lt t.first_page (pages_end page_length s)
 
 abbrev pub shares_any : ℕ → Described → List Described → Bool
-shares_any page_length s [] = false
-shares_any page_length s (t ∷ ts) = shares page_length s t || shares_any page_length s ts
+shares_any page_length s earlier = list_any (shares page_length s) earlier
 
 -- its pages are on the target, and shared with no earlier section
 abbrev pub paged : ℕ → ℕ → ℕ → List Described → Described → Result Described Code
 paged page_length page_count place earlier s =
     cond (nat_le (pages_end page_length s) page_count && not (shares_any page_length s earlier)) (Ok s) (Err (refuse BadPages place File))
-
-abbrev pub then : {X Y : Type 0} → Result X Code → (X → Result Y Code) → Result Y Code
-then (Ok x) next = next x
-then (Err e) next = Err e
 
 -- entry i from 0, which is at place i + 1
 abbrev pub entry_of : ℕ → List ℕ → List ℕ
@@ -67,10 +63,8 @@ listed page_length page_count file =
 
 -- section n from 1
 abbrev pub section_at : ℕ → List Described → Option Described
-section_at n [] = None
-section_at zero (s ∷ ss) = None
-section_at (suc zero) (s ∷ ss) = Some s
-section_at (suc (suc n)) (s ∷ ss) = section_at (suc n) ss
+section_at zero ss = None
+section_at (suc i) ss = slice_get ss i
 
 -- a number that is not listed is refused at that number
 abbrev pub asked : ℕ → Option Described → Result Described Code

@@ -1,8 +1,8 @@
 //! Reading and judging an entry.
 
-ghost use Rattle.std.specs.Prelude.{◌≡◌, ◌+◌, ◌≤◌, length};
+ghost use Rattle.std.specs.Prelude.{◌≡◌, ◌+◌, ◌≤◌, length, take, drop};
 ghost use Rattle.refusals.specs.Codes.{answer};
-ghost use Rattle.sections.specs.Entries.{number, fields_of, cipher_named, mode_named, good_tag, good_sync, sync_in, good_fields, good_length, judged_fields};
+ghost use Rattle.sections.specs.Entries.{fields_of, mode_named, good_tag, good_sync, sync_in, good_fields, good_length, judged_fields};
 ghost use Rattle.sections.specs.Meaning.{meaning_of};
 
 use crate::fields::Fields;
@@ -11,63 +11,18 @@ use crate::section::Section;
 use modes::mode::{Mode, Sync};
 use refusals::{Layer, Reason, Refusal};
 
-/// The number in two bytes from a place on.
-fn read_two(bytes: &[u8], at: usize) -> u32
-    requires { at + 2 ≤ length bytes.now }
-    ensures { result ≡ number 2 at bytes.now }
+/// The `N` bytes from a place on.
+fn part<const N: usize>(bytes: &[u8], at: usize) -> [u8; N]
+    requires { at + N ≤ length bytes.now }
+    ensures { result ≡ take N (drop at bytes.now) }
 {
-    bytes[at] as u32 + bytes[at + 1] as u32 * 256
-}
-
-/// The number in four bytes from a place on.
-fn read_four(bytes: &[u8], at: usize) -> u32
-    requires { at + 4 ≤ length bytes.now }
-    ensures { result ≡ number 4 at bytes.now }
-{
-    u32::from_le_bytes([bytes[at], bytes[at + 1], bytes[at + 2], bytes[at + 3]])
-}
-
-/// The number in eight bytes from a place on.
-fn read_eight(bytes: &[u8], at: usize) -> u64
-    requires { at + 8 ≤ length bytes.now }
-    ensures { result ≡ number 8 at bytes.now }
-{
-    let low = read_four(bytes, at) as u64;
-    let high = read_four(bytes, at + 4) as u64;
-    low + high * 0x1_0000_0000
-}
-
-/// The fields of an entry.
-pub(crate) fn read_fields(entry: &[u8]) -> Fields
-    requires { length entry.now ≡ 32 }
-    ensures { result ≡ fields_of entry.now }
-{
-    Fields {
-        cipher: entry[0],
-        mode: entry[1],
-        bits: entry[2],
-        zero: entry[3],
-        first_page: read_two(entry, 4),
-        zeros: read_two(entry, 6),
-        length: read_four(entry, 8),
-        first: read_eight(entry, 12),
-        second: read_eight(entry, 20),
-        tag: read_four(entry, 28),
-    }
-}
-
-/// The cipher of a number.
-pub(crate) fn cipher_named(n: u8) -> Option<CipherKind>
-    ensures { result ≡ cipher_named n }
-{
-    match n {
-        1 => Some(CipherKind::Gost),
-        2 => Some(CipherKind::Kuznyechik),
-        _ => None,
-    }
+    let mut part = [0; N];
+    part.copy_from_slice(&bytes[at..at + N]);
+    part
 }
 
 /// The mode of a number.
+// No TryFrom as a cipher has: the numbers are the file's, and Mode is another crate's.
 fn mode_named(n: u8) -> Option<Mode>
     ensures { result ≡ mode_named n }
 {
@@ -79,23 +34,51 @@ fn mode_named(n: u8) -> Option<Mode>
     }
 }
 
+/// How a body is enciphered: its cipher and its mode.
+#[derive(Clone, Copy)]
+struct Way {
+    cipher: CipherKind,
+    mode: Mode,
+}
+
+impl Way {
+    /// Whether the sync is as stated.
+    fn good_sync(self, first: u64, second: u64) -> bool
+        ensures { result ≡ good_sync self.cipher self.mode first second }
+    {
+        match (self.cipher, self.mode) {
+            (_, Mode::Codebook) => first == 0 && second == 0,
+            (CipherKind::Gost, _) => second == 0,
+            (CipherKind::Kuznyechik, Mode::Counter) => false,
+            (CipherKind::Kuznyechik, Mode::Feedback) => true,
+        }
+    }
+
+    /// Whether every field is as stated.
+    fn good_fields(self, f: Fields) -> bool
+        ensures { result ≡ good_fields self.cipher self.mode f }
+    {
+        f.zero == 0 && f.zeros == 0 && good_tag(f.bits, f.tag) && self.good_sync(f.first, f.second)
+    }
+
+    /// Whether an image may have this length, and has whole blocks in codebook.
+    fn good_length(self, length: u32) -> bool
+        ensures { result ≡ good_length self.cipher self.mode length }
+    {
+        let whole = match (self.mode, self.cipher) {
+            (Mode::Codebook, CipherKind::Gost) => length % 8 == 0,
+            (Mode::Codebook, CipherKind::Kuznyechik) => length % 16 == 0,
+            _ => true,
+        };
+        (9..=16384).contains(&length) && whole
+    }
+}
+
 /// Whether a tag has 1 to 32 bits and is below 2 to that number.
 fn good_tag(bits: u8, tag: u32) -> bool
     ensures { result ≡ good_tag bits tag }
 {
-    1 <= bits && bits <= 32 && u64::from(tag) < 1u64 << bits
-}
-
-/// Whether the sync of a mode is as stated.
-fn good_sync(cipher: CipherKind, mode: Mode, first: u64, second: u64) -> bool
-    ensures { result ≡ good_sync cipher mode first second }
-{
-    match (cipher, mode) {
-        (_, Mode::Codebook) => first == 0 && second == 0,
-        (CipherKind::Gost, _) => second == 0,
-        (CipherKind::Kuznyechik, Mode::Counter) => false,
-        (CipherKind::Kuznyechik, Mode::Feedback) => true,
-    }
+    (1..=32).contains(&bits) && u64::from(tag) < 1u64 << bits
 }
 
 /// The sync of a mode.
@@ -108,53 +91,50 @@ fn sync_in(mode: Mode, first: u64, second: u64) -> Option<Sync>
     }
 }
 
-/// Whether every field is as stated.
-fn good_fields(cipher: CipherKind, mode: Mode, f: Fields) -> bool
-    ensures { result ≡ good_fields cipher mode f }
-{
-    f.zero == 0
-        && f.zeros == 0
-        && good_tag(f.bits, f.tag)
-        && good_sync(cipher, mode, f.first, f.second)
-}
-
-/// Whether an image may have this length, and has whole blocks in codebook.
-fn good_length(cipher: CipherKind, mode: Mode, length: u32) -> bool
-    ensures { result ≡ good_length cipher mode length }
-{
-    let whole = match (mode, cipher) {
-        (Mode::Codebook, CipherKind::Gost) => length % 8 == 0,
-        (Mode::Codebook, CipherKind::Kuznyechik) => length % 16 == 0,
-        _ => true,
-    };
-    9 <= length && length <= 16384 && whole
-}
-
-/// The section that the fields at a place of the table give, with where its body begins.
-pub(crate) fn judge_fields(f: Fields, place: u32, offset: u32) -> Result<Section, Refusal>
-    ensures { answer meaning_of result ≡ judged_fields place offset f }
-{
-    let bad = Refusal::new(Reason::BadField, place, Layer::File);
-    let Some(cipher) = cipher_named(f.cipher) else {
-        return Err(bad);
-    };
-    let Some(mode) = mode_named(f.mode) else {
-        return Err(bad);
-    };
-    if !good_fields(cipher, mode, f) {
-        return Err(bad);
+impl Fields {
+    /// The fields of an entry.
+    pub(crate) fn read(entry: &[u8]) -> Fields
+        requires { length entry.now ≡ 32 }
+        ensures { result ≡ fields_of entry.now }
+    {
+        Fields {
+            cipher: entry[0],
+            mode: entry[1],
+            bits: entry[2],
+            zero: entry[3],
+            first_page: u16::from_le_bytes(part(entry, 4)),
+            zeros: u16::from_le_bytes(part(entry, 6)),
+            length: u32::from_le_bytes(part(entry, 8)),
+            first: u64::from_le_bytes(part(entry, 12)),
+            second: u64::from_le_bytes(part(entry, 20)),
+            tag: u32::from_le_bytes(part(entry, 28)),
+        }
     }
-    if !good_length(cipher, mode, f.length) {
-        return Err(Refusal::new(Reason::BadLength, place, Layer::File));
+
+    /// The section that the fields at a place of the table give, with where its body begins.
+    #[tactic(auto, unfolding(crate::specs::Entries::judged_fields))]
+    pub(crate) fn judge(self, place: u32, offset: u32) -> Result<Section, Refusal>
+        ensures { answer meaning_of result ≡ judged_fields place offset self }
+    {
+        let bad = Refusal::new(Reason::BadField, place, Layer::File);
+        let cipher = CipherKind::try_from(self.cipher).map_err(|_| bad)?;
+        let mode = mode_named(self.mode).ok_or(bad)?;
+        let way = Way { cipher, mode };
+        if !way.good_fields(self) {
+            return Err(bad);
+        }
+        if !way.good_length(self.length) {
+            return Err(Refusal::new(Reason::BadLength, place, Layer::File));
+        }
+        Ok(Section {
+            cipher,
+            mode,
+            bits: self.bits,
+            first_page: u32::from(self.first_page),
+            length: self.length,
+            sync: sync_in(mode, self.first, self.second),
+            tag: self.tag,
+            offset,
+        })
     }
-    Ok(Section {
-        cipher,
-        mode,
-        bits: f.bits,
-        first_page: f.first_page,
-        length: f.length,
-        sync: sync_in(mode, f.first, f.second),
-        tag: f.tag,
-        offset,
-    })
 }

@@ -8,9 +8,9 @@ pub struct Fields {
     pub bits: u8,
     /// Byte 3.
     pub zero: u8,
-    pub first_page: u32,
+    pub first_page: u16,
     /// Bytes 6 and 7.
-    pub zeros: u32,
+    pub zeros: u16,
     pub length: u32,
     /// The first and the last eight bytes of the sync.
     pub first: u64,

@@ -14,5 +14,7 @@ mod fields;
 pub mod file;
 pub mod kind;
 pub mod listing;
+mod listings;
+mod pages;
 pub mod sealing;
 pub mod section;

@@ -46,10 +46,7 @@ mod tests {
     }
 
     fn accepted(res: Result<Listing, Refusal>) -> Result<Listing, Fail> {
-        match res {
-            Ok(listing) => Ok(listing),
-            Err(_) => Err(Fail::new("refused")),
-        }
+        res.map_err(|_| Fail::new("refused"))
     }
 
     // A file of that section, its body nine zeros.
@@ -208,15 +205,15 @@ mod tests {
         let mut body = [0; 9];
         let mut entry = ENTRY;
         assert_eq!(rt;
-            seal(&mut entry[..31], &image, &mut body, &cipher, &key, &table).is_err(),
+            seal(&mut entry[..31], &image, &mut body, &cipher, cipher).is_err(),
             true
         );
         assert_eq!(rt;
-            seal(&mut entry, &image[..8], &mut body, &cipher, &key, &table).is_err(),
+            seal(&mut entry, &image[..8], &mut body, &cipher, cipher).is_err(),
             true
         );
         assert_eq!(rt;
-            seal(&mut entry, &image, &mut body, &cipher, &key, &table).is_ok(),
+            seal(&mut entry, &image, &mut body, &cipher, cipher).is_ok(),
             true
         );
         let mut file = [0; 45];
@@ -232,7 +229,7 @@ mod tests {
         let mut again = [0; 9];
         entry[28] = 0;
         assert_eq!(rt;
-            seal(&mut entry, &image, &mut again, &cipher, &key, &table).is_ok(),
+            seal(&mut entry, &image, &mut again, &cipher, cipher).is_ok(),
             true
         );
         assert_eq!(rt;
