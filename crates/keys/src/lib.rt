@@ -13,10 +13,11 @@ ghost use Rattle.gost.specs.Cipher.{rows_of};
 ghost use Rattle.gost.specs.Keyed.{rows_in, words_in};
 ghost use Rattle.keys.specs.Keys.{spread_in, keys_answer};
 
+use blocks::judge_length;
 use gost::cipher::Gost;
 use gost::table::SubstitutionTable;
 use kuznyechik::cipher::Kuznyechik;
-use refusals::{Layer, Reason, Refusal};
+use refusals::{Layer, Refusal};
 
 /// The body key as each cipher takes it, and the tag key.
 #[derive(Clone, Copy)]
@@ -31,9 +32,7 @@ impl SpreadKeys {
     pub fn spread(keys: &[u8]) -> Result<SpreadKeys, Refusal>
         ensures { answer spread_in result ≡ keys_answer keys.now }
     {
-        if keys.len() != 64 {
-            return Err(Refusal::new(Reason::WrongBuffer, 0, Layer::File));
-        }
+        judge_length(64, Layer::File, keys)?;
         let (body, tag) = keys.split_at(32);
         let mut spread = SpreadKeys {
             words: [0; 8],
