@@ -1,10 +1,9 @@
 //! A line of the list of sections.
 
-ghost use Rattle.std.specs.Prelude.{◌<◌, IfSome};
-
 use modes::mode::Sync;
 use packing::plan::{Plan, PlannedMode};
 use sections::kind::CipherKind;
+use std::fmt;
 
 /// A section as its line plans it, and the name of its image's file.
 #[derive(Clone, Copy)]
@@ -26,10 +25,10 @@ pub enum LineFault {
     KuznyechikSync,
 }
 
-impl LineFault {
-    /// What is wrong, for a person.
-    pub(crate) fn text(self) -> &'static str {
-        match self {
+/// What is wrong, for a person.
+impl fmt::Display for LineFault {
+    fn fmt<W: fmt::Write>(&self, f: &mut fmt::Formatter<W>) -> fmt::Result {
+        f.write_str(match self {
             LineFault::WordCount => {
                 "six words are wanted: cipher, mode, l, first page, sync, image file"
             }
@@ -40,109 +39,74 @@ impl LineFault {
             LineFault::NoSync => "codebook has no sync: write -",
             LineFault::GostSync => "the sync of gost is 16 digits of hex",
             LineFault::KuznyechikSync => "the sync of kuznyechik is 32 digits of hex",
-        }
+        })
     }
 }
 
 /// The cipher of a word.
-fn cipher_named(word: &str) -> Option<CipherKind> {
+fn cipher_named(word: &str) -> Result<CipherKind, LineFault> {
     match word {
-        "gost" => Some(CipherKind::Gost),
-        "kuznyechik" => Some(CipherKind::Kuznyechik),
-        _ => None,
-    }
-}
-
-/// The number of a digit of hex.
-fn digit(c: u8) -> Option<u8>
-    ensures { IfSome result (λ n. n < 16) }
-{
-    match c {
-        b'0'..=b'9' => Some(c - b'0'),
-        b'a'..=b'f' => Some(c - b'a' + 10),
-        b'A'..=b'F' => Some(c - b'A' + 10),
-        _ => None,
+        "gost" => Ok(CipherKind::Gost),
+        "kuznyechik" => Ok(CipherKind::Kuznyechik),
+        _ => Err(LineFault::Cipher),
     }
 }
 
 /// The number that sixteen digits of hex write, the lowest byte first.
-fn word_of(digits: &[u8]) -> Option<u64> {
+fn word_of(digits: &str) -> Option<u64> {
     if digits.len() != 16 {
         return None;
     }
-    let mut bytes = [0u8; 8];
-    for i in 0..8usize {
-        let high = digit(digits[2 * i])?;
-        let low = digit(digits[2 * i + 1])?;
-        bytes[i] = high * 16 + low;
+    let mut word = 0u64;
+    for digit in digits.chars() {
+        word = word << 4 | u64::from(digit.to_digit(16)?);
     }
-    Some(u64::from_le_bytes(bytes))
+    Some(word.swap_bytes())
 }
 
-/// The sync that a word writes, first byte first.
-fn sync_of(cipher: CipherKind, word: &str) -> Option<Sync> {
-    let digits = word.as_bytes();
+/// The sync that sixteen digits of hex write.
+fn gost_sync(digits: &str) -> Option<Sync> {
+    Some(Sync {
+        first: word_of(digits)?,
+        second: 0,
+    })
+}
+
+/// The sync that thirty-two digits of hex write, first byte first.
+fn kuznyechik_sync(digits: &str) -> Option<Sync> {
+    let (first, second) = digits.split_at_checked(16)?;
+    Some(Sync {
+        first: word_of(first)?,
+        second: word_of(second)?,
+    })
+}
+
+/// The sync that a word writes.
+fn sync_of(cipher: CipherKind, word: &str) -> Result<Sync, LineFault> {
     match cipher {
-        CipherKind::Gost => Some(Sync {
-            first: word_of(digits)?,
-            second: 0,
-        }),
-        CipherKind::Kuznyechik => {
-            if digits.len() != 32 {
-                return None;
-            }
-            let (first, second) = digits.split_at(16);
-            Some(Sync {
-                first: word_of(first)?,
-                second: word_of(second)?,
-            })
-        }
+        CipherKind::Gost => gost_sync(word).ok_or(LineFault::GostSync),
+        CipherKind::Kuznyechik => kuznyechik_sync(word).ok_or(LineFault::KuznyechikSync),
     }
 }
 
 /// The mode that two words give: its name and its sync.
 fn mode_named(cipher: CipherKind, name: &str, sync: &str) -> Result<PlannedMode, LineFault> {
-    if name == "codebook" {
-        if sync == "-" {
-            return Ok(PlannedMode::Codebook);
-        }
-        return Err(LineFault::NoSync);
-    }
-    if name != "counter" && name != "feedback" {
-        return Err(LineFault::Mode);
-    }
-    match (sync_of(cipher, sync), cipher) {
-        (Some(sync), _) => {
-            if name == "counter" {
-                Ok(PlannedMode::Counter(sync))
-            } else {
-                Ok(PlannedMode::Feedback(sync))
-            }
-        }
-        (None, CipherKind::Gost) => Err(LineFault::GostSync),
-        (None, CipherKind::Kuznyechik) => Err(LineFault::KuznyechikSync),
+    match name {
+        "codebook" if sync == "-" => Ok(PlannedMode::Codebook),
+        "codebook" => Err(LineFault::NoSync),
+        "counter" => Ok(PlannedMode::Counter(sync_of(cipher, sync)?)),
+        "feedback" => Ok(PlannedMode::Feedback(sync_of(cipher, sync)?)),
+        _ => Err(LineFault::Mode),
     }
 }
 
 /// The number of bits that a word writes.
 fn bits_of(word: &str) -> Result<u8, LineFault> {
-    match word.parse::<u8>() {
-        Ok(bits) => {
-            if bits < 1 || bits > 32 {
-                return Err(LineFault::Bits);
-            }
-            Ok(bits)
-        }
-        Err(_) => Err(LineFault::Bits),
+    let bits = word.parse::<u8>().map_err(|_| LineFault::Bits)?;
+    if !(1..=32).contains(&bits) {
+        return Err(LineFault::Bits);
     }
-}
-
-/// The page that a word writes.
-fn page_of(word: &str) -> Result<u16, LineFault> {
-    match word.parse::<u16>() {
-        Ok(page) => Ok(page),
-        Err(_) => Err(LineFault::Page),
-    }
+    Ok(bits)
 }
 
 /// Reads the words of a line: cipher, mode, l, first page, sync, image.
@@ -150,14 +114,12 @@ pub(crate) fn read_words<'a>(words: &[&'a str]) -> Result<Line<'a>, LineFault> {
     let [cipher, mode, bits, page, sync, name] = words else {
         return Err(LineFault::WordCount);
     };
-    let Some(cipher) = cipher_named(cipher) else {
-        return Err(LineFault::Cipher);
-    };
+    let cipher = cipher_named(cipher)?;
     let plan = Plan {
         cipher,
         mode: mode_named(cipher, mode, sync)?,
         bits: bits_of(bits)?,
-        first_page: page_of(page)?,
+        first_page: page.parse().map_err(|_| LineFault::Page)?,
     };
     Ok(Line { plan, name })
 }
@@ -187,31 +149,22 @@ mod tests {
     #[test]
     fn faults(rt: HostRuntime) -> Result<(), Fail> {
         let lines = [
-            "gost codebook 8 0 -",
-            "gost codebook 8 0 - a b",
-            "GOST counter 8 0 0102030405060708 a",
-            "gost cbc 8 0 0102030405060708 a",
-            "gost codebook 8 0 0102030405060708 a",
-            "gost counter 8 0 010203040506070g a",
-            "kuznyechik feedback 8 0 0102030405060708 a",
-            "gost counter 0 0 0102030405060708 a",
-            "gost counter 33 0 0102030405060708 a",
-            "gost counter 1 65536 0102030405060708 a",
+            ("gost codebook 8 0 -", LineFault::WordCount),
+            ("gost codebook 8 0 - a b", LineFault::WordCount),
+            ("GOST counter 8 0 0102030405060708 a", LineFault::Cipher),
+            ("gost cbc 8 0 0102030405060708 a", LineFault::Mode),
+            ("gost codebook 8 0 0102030405060708 a", LineFault::NoSync),
+            ("gost counter 8 0 010203040506070g a", LineFault::GostSync),
+            (
+                "kuznyechik feedback 8 0 0102030405060708 a",
+                LineFault::KuznyechikSync,
+            ),
+            ("gost counter 0 0 0102030405060708 a", LineFault::Bits),
+            ("gost counter 33 0 0102030405060708 a", LineFault::Bits),
+            ("gost counter 1 65536 0102030405060708 a", LineFault::Page),
         ];
-        let expected = [
-            LineFault::WordCount,
-            LineFault::WordCount,
-            LineFault::Cipher,
-            LineFault::Mode,
-            LineFault::NoSync,
-            LineFault::GostSync,
-            LineFault::KuznyechikSync,
-            LineFault::Bits,
-            LineFault::Bits,
-            LineFault::Page,
-        ];
-        for i in 0..10usize {
-            fault(&rt, rt.alloc(), lines[i], expected[i])?;
+        for (line, expected) in lines {
+            fault(&rt, rt.alloc(), line, expected)?;
         }
         Ok(())
     }

@@ -1,25 +1,6 @@
-//! What is said of a section and of a refusal.
+//! What a refusal means, for a person.
 
-use modes::mode::Mode;
 use refusals::{Layer, Reason, Refusal};
-use sections::kind::CipherKind;
-
-/// The word for a cipher.
-pub(crate) fn cipher_word(cipher: CipherKind) -> &'static str {
-    match cipher {
-        CipherKind::Gost => "gost",
-        CipherKind::Kuznyechik => "kuznyechik",
-    }
-}
-
-/// The word for a mode.
-pub(crate) fn mode_word(mode: Mode) -> &'static str {
-    match mode {
-        Mode::Codebook => "codebook",
-        Mode::Counter => "counter",
-        Mode::Feedback => "feedback",
-    }
-}
 
 /// What a refusal of the target description means.
 fn target_text(reason: Reason) -> &'static str {
