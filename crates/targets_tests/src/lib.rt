@@ -9,7 +9,8 @@ mod tests {
     use std::process::Abort;
     use std::test::Fail;
     use targets::Target;
-    use targets::kinds::{Flash, Ram};
+    use targets::kinds::{Flash, FlashKind, Kind, Ram, RamKind};
+    use targets::paged::Paged;
 
     const OPEN: [bool; 1024] = [false; 1024];
 
@@ -179,6 +180,19 @@ mod tests {
         in_order(&rt, &mut Ram::new(&mut memory, 16, 3, 255, &locked)?)
     }
 
+    // Sees that no target of the kind is built on the memory.
+    fn refuses<K: Kind>(
+        rt: &impl Abort,
+        memory: &mut [u8],
+        page_length: u32,
+        page_count: u32,
+    ) -> Result<(), Fail> {
+        match Paged::<K>::new(memory, page_length, page_count, 255, &OPEN) {
+            Ok(_) => Err(Fail::new("built")),
+            Err(why) => is(rt, why, 9, 0),
+        }
+    }
+
     // Sees that neither kind is built on the memory, and that the memory stays.
     fn unbuilt(
         rt: &impl Abort,
@@ -186,14 +200,8 @@ mod tests {
         page_length: u32,
         page_count: u32,
     ) -> Result<(), Fail> {
-        match Flash::new(memory, page_length, page_count, 255, &OPEN) {
-            Ok(_) => return Err(Fail::new("built")),
-            Err(why) => is(rt, why, 9, 0)?,
-        }
-        match Ram::new(memory, page_length, page_count, 255, &OPEN) {
-            Ok(_) => return Err(Fail::new("built")),
-            Err(why) => is(rt, why, 9, 0)?,
-        }
+        refuses::<FlashKind>(rt, memory, page_length, page_count)?;
+        refuses::<RamKind>(rt, memory, page_length, page_count)?;
         for b in memory {
             assert_eq!(rt; *b, 9);
         }
