@@ -1,22 +1,38 @@
 -- A bench: what the calls of a trace on it share, where the trace stands, and what its buffers hold.
-use Rattle.std.specs.Prelude.{◌≡◌, ℕ, Bool, true, List, length, replicate}
+use Rattle.std.specs.Prelude.{◌≡◌, ℕ, Bool, true, cond, List, length, replicate}
+use Rattle.refusals.specs.Codes.{unless}
 use Rattle.blocks.specs.Ciphers.{BlockMap}
 use Rattle.gost.specs.Keyed.{rows_in, words_in}
 use Rattle.sections.specs.Entries.{Described}
 use Rattle.targets.specs.State.{TargetState}
+use Rattle.downloads.specs.declared.arrivals.Arrival.{Arrival}
 use Rattle.downloads.specs.declared.arrivals.Arrival.TheVariants.{Missing}
-use Rattle.downloads.specs.Frames.{block_of, blocks_of}
+use Rattle.downloads.specs.Copies.{Copies}
+use Rattle.downloads.specs.Frames.{block_of, blocks_of, with_frame, body_after, marks_after}
 use Rattle.downloads.specs.declared.received.Received.{Received}
 use Rattle.traces.specs.declared.call.Bench.{Bench}
-use Rattle.downloads.specs.Received.{body_in, marks_of, copies_of, stores, SameLoans}
+use Rattle.downloads.specs.Received.{body_in, marks_of, copies_of, stores, SameLoans, frame_said}
 use Rattle.traces.specs.Traces.{Setting, Call, Answer, Standing, step, answer_to, run, answers_of}
 use Rattle.traces.specs.Answers.{given_by}
 use Rattle.traces.specs.Buffers.{Buffers, buffers, after, buffers_after}
 use Rattle.traces.specs.Runs.{setting, stands_by, Runs}
 
--- what giving a block is answered, of what has been received
+-- ---- what has been received
+
+-- what giving a block is answered
 abbrev pub given_from : BlockMap → Described → Received → ℕ → Answer
 given_from c s r i = given_by c s (length (body_in r)) (length (marks_of r)) (copies_of (block_of s) r) i
+
+-- what a frame leaves of it, unless the download is closed
+abbrev pub body_framed : Described → Bool → Received → ℕ → List ℕ → List ℕ
+body_framed s closed r f bytes = cond closed (body_in r) (unless (frame_said s r f bytes) (body_in r) (body_after (block_of s) f bytes (body_in r)))
+
+abbrev pub marks_framed : Described → Bool → Received → ℕ → List ℕ → List Arrival
+marks_framed s closed r f bytes = cond closed (marks_of r) (unless (frame_said s r f bytes) (marks_of r) (marks_after (block_of s) f bytes (marks_of r)))
+
+abbrev pub copies_framed : Described → Bool → Received → ℕ → List ℕ → Copies
+copies_framed s closed r f bytes =
+    cond closed (copies_of (block_of s) r) (unless (frame_said s r f bytes) (copies_of (block_of s) r) (with_frame (block_of s) (copies_of (block_of s) r) f bytes))
 
 -- ---- a bench, with the meaning of its cipher and of its target
 

@@ -4,13 +4,13 @@ ghost use Rattle.std.specs.Prelude.{◌≡◌, true, false, ◌&&◌, length, if
 ghost use Rattle.refusals.specs.Codes.{code_of, outcome, unless};
 ghost use Rattle.gost.specs.Keyed.{rows_in, words_in};
 ghost use Rattle.sections.specs.Meaning.{meaning_of};
-ghost use Rattle.downloads.specs.Frames.{block_of, with_frame, body_after, marks_after};
+ghost use Rattle.downloads.specs.Frames.{block_of};
 ghost use Rattle.downloads.specs.Verdicts.{verify_answer, read_after};
 ghost use Rattle.downloads.specs.Received.{body_in, marks_of, copies_of, frame_said, close_said, SameLoans};
 ghost use Rattle.traces.specs.Traces.{done, not_built, refused, answered, is_refused};
 ghost use Rattle.traces.specs.Answers.{verdict_as};
 ghost use Rattle.traces.specs.Meaning.{answer_of, section_of, closed_in, stops_at};
-ghost use Rattle.traces.specs.Bench.{given_from};
+ghost use Rattle.traces.specs.Bench.{given_from, body_framed, marks_framed, copies_framed};
 
 use crate::call::{Answer, Phase, Until};
 use blocks::BlockCipher;
@@ -83,9 +83,9 @@ pub(crate) fn on_frame(phase: Phase, received: &mut Received<'_>, first: u32, by
     ensures answer { answer_of result.answer ≡ (if closed_in phase then not_built else answered (frame_said (section_of phase) received.old first bytes.now) done) }
     ensures phase { (section_of result.phase ≡ section_of phase) × (closed_in result.phase ≡ closed_in phase) }
     ensures same { SameLoans received.old received.new }
-    ensures body { body_in received.new ≡ (if closed_in phase then body_in received.old else unless (frame_said (section_of phase) received.old first bytes.now) (body_in received.old) (body_after (block_of (section_of phase)) first bytes.now (body_in received.old))) }
-    ensures arrivals { marks_of received.new ≡ (if closed_in phase then marks_of received.old else unless (frame_said (section_of phase) received.old first bytes.now) (marks_of received.old) (marks_after (block_of (section_of phase)) first bytes.now (marks_of received.old))) }
-    ensures copies { copies_of (block_of (section_of phase)) received.new ≡ (if closed_in phase then copies_of (block_of (section_of phase)) received.old else unless (frame_said (section_of phase) received.old first bytes.now) (copies_of (block_of (section_of phase)) received.old) (with_frame (block_of (section_of phase)) (copies_of (block_of (section_of phase)) received.old) first bytes.now)) }
+    ensures body { body_in received.new ≡ body_framed (section_of phase) (closed_in phase) received.old first bytes.now }
+    ensures arrivals { marks_of received.new ≡ marks_framed (section_of phase) (closed_in phase) received.old first bytes.now }
+    ensures copies { copies_of (block_of (section_of phase)) received.new ≡ copies_framed (section_of phase) (closed_in phase) received.old first bytes.now }
 {
     match phase {
         Phase::Closed(state) => Moved::new(Phase::Closed(state), Answer::NotBuilt),
