@@ -1,5 +1,5 @@
 -- The entry of a plan, as listing and sealing judge it.
-use Rattle.std.proofs.Common.{◌≡◌, ℕ, ◌^◌, ◌<◌, ◌≤◌, Bool, true, cond, ◌&&◌, ltb, leb, length, Some, Ok, Err, Result, refl, ap, ◌∙◌, arith, pow_mono}
+use Rattle.std.proofs.Common.{◌≡◌, ℕ, ◌^◌, ◌<◌, ◌≤◌, Bool, true, cond, ◌&&◌, ltb, leb, length, Ok, Err, Result, refl, ap, ◌∙◌, arith, pow_mono}
 use Rattle.std.proofs.lemmas.Bool.{and_parts, and_from, eq-eqb, lt-ltb, leb-true}
 use Rattle.refusals.specs.declared.Reason.TheVariants.{BadField, BadLength}
 use Rattle.refusals.specs.declared.Layer.TheVariants.{File}
@@ -10,11 +10,11 @@ use Rattle.sections.specs.declared.kind.CipherKind.{CipherKind}
 use Rattle.sections.specs.declared.kind.CipherKind.TheVariants.{Gost, Kuznyechik}
 use Rattle.sections.specs.declared.fields.Fields.{Fields}
 use Rattle.sections.specs.Images.{block_length}
-use Rattle.sections.specs.Entries.{Described, fields_of, cipher_named, mode_named, good_tag, good_sync, good_length, described, judged_fields}
+use Rattle.sections.specs.Entries.{Described, fields_of, cipher_named, good_tag, good_sync, good_length, described, judged_fields}
 use Rattle.sections.specs.Seals.{sized, seal_answer, tagged}
 use Rattle.sections.specs.Written.{cipher_byte, mode_byte, entry_bytes}
 use Rattle.sections.proofs.Judged.{as_named}
-use Rattle.sections.proofs.Written.{five, cipher_back}
+use Rattle.sections.proofs.Written.{five, cipher_back, mode_back}
 use Rattle.packing.specs.declared.plan.PlannedMode.{PlannedMode}
 use Rattle.packing.specs.declared.plan.PlannedMode.TheVariants.{Codebook, Counter, Feedback}
 use Rattle.packing.specs.declared.plan.Plan.{Plan}
@@ -71,11 +71,6 @@ by_mode cipher (Feedback y) bits page n tag offset p l t f s =
 fields_back : (plan : Plan) (n tag offset : ℕ) → PlanFits plan → n < 4294967296 → tag < 4294967296 → fields_of (entry_bytes (section_of plan n tag offset)) ≡ fields_for plan n tag
 fields_back plan n tag offset f l t = by_mode plan.cipher plan.mode plan.bits plan.first_page n tag offset f.page l t f.first f.second
 
-mode_back : (m : PlannedMode) → Some (mode_in m) ≡ mode_named (mode_byte (mode_in m))
-mode_back Codebook = refl
-mode_back (Counter s) = refl
-mode_back (Feedback s) = refl
-
 same_mode : (cipher : CipherKind) (mode : PlannedMode) (bits page n tag offset : ℕ) →
     described cipher (mode_in mode) (fields_for (plan_of cipher mode bits page) n tag) offset ≡ section_of (plan_of cipher mode bits page) n tag offset
 same_mode cipher Codebook bits page n tag offset = refl
@@ -89,7 +84,7 @@ as_planned : (plan : Plan) (n tag place offset : ℕ) → judged_fields place of
 as_planned plan n tag place offset =
     let fields : Bool = good_tag plan.bits tag && good_sync plan.cipher (mode_in plan.mode) (sync_words plan.mode).first (sync_words plan.mode).second in
     let long : Bool = good_length plan.cipher (mode_in plan.mode) n in
-    as_named place offset (fields_for plan n tag) plan.cipher (mode_in plan.mode) (cipher_back plan.cipher) (mode_back plan.mode)
+    as_named place offset (fields_for plan n tag) plan.cipher (mode_in plan.mode) (cipher_back plan.cipher) (mode_back (mode_in plan.mode))
     ∙ ap (λ (s : Described). cond fields (cond long (Ok s) (Err (refuse BadLength place File))) (Err (refuse BadField place File)))
     (same_mode plan.cipher plan.mode plan.bits plan.first_page n tag offset)
 

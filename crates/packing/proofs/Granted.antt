@@ -1,10 +1,10 @@
 -- How a file is judged, by cases, and what a packed file is listed as.
 use Rattle.std.proofs.Common.{◌≡◌, ℕ, suc, ◌+◌, ◌*◌, ◌<◌, ◌≤◌, Bool, true, false, cond, not, ◌&&◌, eqb, leb, List, [], ◌∷◌, ◌++◌, map, length, get_or, take, drop, Ok, Err, Result, sym, refl, ap, ◌∙◌, ap₂, inl, inr, append_assoc, append-nil, arith, length-append}
-use Rattle.std.proofs.lemmas.Bool.{and_from, and_left, and_right, le-leb, lt-leb, leb-true, leb-false, eqb-true, eq-eqb, cases_Bool}
+use Rattle.std.proofs.lemmas.Bool.{and_from, le-leb, leb-true, leb-false, eq-eqb, cases_Bool}
 use Rattle.std.specs.List.{AllByRecursion}
-use Rattle.refusals.specs.declared.Reason.TheVariants.{WrongSize, BadField, BadPages}
+use Rattle.refusals.specs.declared.Reason.TheVariants.{WrongSize, BadPages}
 use Rattle.refusals.specs.declared.Layer.TheVariants.{File}
-use Rattle.refusals.specs.Codes.{Code, refuse, code_of, then}
+use Rattle.refusals.specs.Codes.{Code, refuse, then}
 use Rattle.modes.specs.Modes.{Chaining, deciphered}
 use Rattle.description.specs.Judge.{Described as Target}
 use Rattle.sections.specs.Entries.{Described, fields_of, judged_fields}
@@ -13,14 +13,12 @@ use Rattle.sections.specs.Seals.{chaining_of}
 use Rattle.sections.specs.Written.{entry_bytes, body_of}
 use Rattle.sections.proofs.Listed.{next_is, table_is, too_long}
 use Rattle.sections.proofs.Written.{past, fore, entry_length}
-use Rattle.packing.specs.declared.fault.Fault.{Fault}
-use Rattle.packing.specs.declared.fault.Fault.TheVariants.{Refused, Memory}
 use Rattle.packing.specs.Plans.{Work}
 use Rattle.keys.specs.Keys.{Spread, spread, keys_answer}
 use Rattle.packing.specs.Sealing.{Means, sealed_section, sealed_body, map_of}
-use Rattle.packing.specs.Packed.{parts, fitting_all, packed_file, paged_all, means_of, packed_with, packed, Answers, fault_knows}
+use Rattle.packing.specs.Packed.{parts, packed_file, paged_all, means_of, packed_with, packed}
 use Rattle.packing.specs.Laws.{Opened, HoldsFor}
-use Rattle.packing.specs.Steps.{Kept, FilledAs, Filled}
+use Rattle.packing.specs.Steps.{Kept, FilledAs}
 use Rattle.packing.proofs.Filled.{entries_of, bodies_of, entry_any, file_parts}
 
 -- ---- how a file is judged
@@ -35,23 +33,8 @@ keys_are keys k h =
       | inr l ↦ absurd (let e = rw l at h in cc)
     ]
 
-pub too_few : (page_length page_count : ℕ) (m : Means) (ws : List Work) → length ws < 1 → packed_with page_length page_count m ws ≡ Err (refuse BadField 0 File)
-too_few page_length page_count m ws h = rw (and_left (leb 1 (length ws)) (leb (length ws) 8) (lt-leb 1 (length ws) h))
-
-pub too_many : (page_length page_count : ℕ) (m : Means) (ws : List Work) → 8 < length ws → packed_with page_length page_count m ws ≡ Err (refuse BadField 0 File)
-too_many page_length page_count m ws h = rw (and_right (leb 1 (length ws)) (leb (length ws) 8) (lt-leb (length ws) 8 h))
-
 enough : (ws : List Work) → 1 ≤ length ws → length ws ≤ 8 → (leb 1 (length ws) && leb (length ws) 8) ≡ true
 enough ws a b = and_from (leb 1 (length ws)) (leb (length ws) 8) (le-leb 1 (length ws) a) (le-leb (length ws) 8 b)
-
-not_fitting : (page_length page_count : ℕ) (m : Means) (ws : List Work) (e : Code) → 1 ≤ length ws → length ws ≤ 8 → fitting_all 1 ws ≡ Err e → packed_with page_length page_count m ws ≡ Err e
-not_fitting page_length page_count m ws e a b h = rw (enough ws a b, h)
-
-pub fault_told : {X : Type 0} (meaning : X → List ℕ) (target : Target) (keys : List ℕ) (ws : List Work) (k : Spread) (f : Fault) → Ok k ≡ keys_answer keys → 1 ≤ length ws → length ws ≤ 8 →
-    Filled meaning (means_of target k) ws (Err f) → Answers meaning (Err f) (packed target keys ws)
-fault_told meaning target keys ws k (Refused e) h a b g =
-    sym (with_keys target keys ws k h ∙ not_fitting target.page_length target.page_count (means_of target k) ws (code_of e) a b g)
-fault_told meaning target keys ws k Memory h a b g = tt
 
 -- ---- a file that is listed
 
@@ -200,14 +183,3 @@ holds_for page_length page_count m ws file ss p a b f h =
       lists = sym h ∙ ap (λ (x : List Described). Ok x) same;
       opens = opened m o file (1 ∷ length ws ∷ 0 ∷ 0 ∷ entries_of m ws) ws (is ∙ file_parts m ws) (omega (arith, entries_long m ws)) f.kept;
     }
-
--- what is known of a fault once there is a fault
-pub fault_known : (f : Fault) (known : Type 0) → known → fault_knows f known
-fault_known (Refused e) known k = tt
-fault_known Memory known k = k
-
-pub keys_long : (keys : List ℕ) (k : Spread) → Ok k ≡ keys_answer keys → length keys ≡ 64
-keys_long keys k e = elim (cases_Bool (eqb (length keys) 64)) [
-  | inl t ↦ eqb-true (length keys) 64 t
-  | inr t ↦ absurd (let f = rw t at e in cc)
-]
