@@ -2,9 +2,8 @@
 //!
 //! A cipher means a `BlockMap` (specs/Ciphers.antt): a block length of 8 or 16 bytes and a
 //! one-to-one map of such blocks with its inverse. Code above is written and proved once, against
-//! that meaning. `Lawful` is the law of the interface: the map is one-to-one, and deciphering and
-//! enciphering undo each other. It stands on `block_length`, so that each cipher has to show it and
-//! every caller has it.
+//! that meaning. `lawful` is the law of the interface: the map is one-to-one, and deciphering and
+//! enciphering undo each other. Each cipher shows it, and generic code has it of every cipher.
 //!
 //! Open results: none.
 
@@ -21,10 +20,9 @@ use refusals::{Layer, Reason, Refusal};
 pub trait BlockCipher {
     ghost map: { Self → BlockMap };
 
-    /// The block length in bytes. With it comes the law of the interface.
+    /// The block length in bytes.
     fn block_length(&self) -> usize
-        ensures value { result ≡ (map self.now).size }
-        ensures lawful { Lawful (map self.now) };
+        ensures value { result ≡ (map self.now).size };
 
     /// Enciphers a block in place. A part of another length is refused and stays as it was.
     fn encipher(&self, block: &mut [u8]) -> Result<(), Refusal>
@@ -35,6 +33,9 @@ pub trait BlockCipher {
     fn decipher(&self, block: &mut [u8]) -> Result<(), Refusal>
         ensures answer { outcome result ≡ length_answer (map self.now).size block.old }
         ensures block { block.new ≡ replaced (map self.now).size (map self.now).deciphered block.old };
+
+    // The law of the interface.
+    ghost lawful: { (c : Self) → Lawful (map c) };
 }
 
 /// Sees that there are `n` bytes; the layer refuses another length. With it comes that each of them is

@@ -5,7 +5,7 @@ ghost use Rattle.refusals.specs.Codes.{outcome};
 ghost use Rattle.gost.specs.Keyed.{rows_in, words_in};
 ghost use Rattle.sections.specs.Meaning.{meaning_of};
 ghost use Rattle.sections.specs.Files.{pages_end};
-ghost use Rattle.targets.specs.State.{WellFormed, page_of};
+ghost use Rattle.targets.specs.State.{page_of};
 ghost use Rattle.downloads.specs.Copies.{sized};
 ghost use Rattle.downloads.specs.States.{section_in, stays, verdict_of, verified_of};
 ghost use Rattle.downloads.specs.Verdicts.{image_on, value_of_image, verify_judged, verify_answer, last_page, read_after};
@@ -20,8 +20,7 @@ use targets::Target;
 
 /// Whether an image can be verified on a target, with a buffer of so many bytes.
 fn judge_verifying<T: Target>(section: &Section, target: &T, room: usize) -> Result<(), Refusal>
-    ensures formed { WellFormed (T.Target.state target.now) }
-    ensures judged { outcome result ≡ sized (room == (T.Target.state target.now).page_length) (verify_judged (meaning_of section.now) (T.Target.state target.now)) }
+    ensures { outcome result ≡ sized (room == (T.Target.state target.now).page_length) (verify_judged (meaning_of section.now) (T.Target.state target.now)) }
 {
     let long = target.page_length();
     sized(room == long as usize)?;
@@ -36,7 +35,6 @@ fn judge_verifying<T: Target>(section: &Section, target: &T, room: usize) -> Res
 
 /// The imitovstavka of the image on a target. The page buffer then holds the image's last page.
 fn value_on<T: Target>(section: &Section, target: &T, tag: Gost<'_>, page: &mut [u8]) -> u32
-    requires formed { WellFormed (T.Target.state target.now) }
     requires room { length page.old ≡ (T.Target.state target.now).page_length }
     requires there { pages_end (T.Target.state target.now).page_length (meaning_of section.now) ≤ (T.Target.state target.now).page_count }
     ensures value { result ≡ value_of_image (rows_in tag.entry) (words_in tag.entry) (meaning_of section.now) (image_on (meaning_of section.now) (T.Target.state target.now)) }

@@ -3,3 +3,4 @@ pub mod Rounds
 pub mod Keys
 pub mod Cipher
 pub mod Keyed
+pub mod law

@@ -5,6 +5,7 @@ ghost use Rattle.refusals.specs.Codes.{outcome};
 ghost use Rattle.blocks.specs.Ciphers.{length_answer, replaced};
 ghost use Rattle.gost.specs.Cipher.{rows_of, enciphered, deciphered, sixteen, gost};
 ghost use Rattle.gost.specs.Keyed.{rows_in, words_in};
+ghost use Rattle.gost.specs.law.Undoing.{gost_lawful};
 
 use crate::cipher::Gost;
 use crate::rounds::Registers;
@@ -30,6 +31,8 @@ impl<'a> Gost<'a> {
 
 impl BlockCipher for Gost<'_> {
     ghost map = { λ c. gost (rows_in c) (words_in c) };
+
+    ghost lawful = { λ c. gost_lawful (rows_in c) c.table.now.checked (words_in c) };
 
     fn block_length(&self) -> usize {
         8

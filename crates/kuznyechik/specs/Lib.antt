@@ -3,3 +3,4 @@ pub mod Field
 pub mod Steps
 pub mod Keys
 pub mod Cipher
+pub mod law

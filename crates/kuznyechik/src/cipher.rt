@@ -4,6 +4,7 @@ ghost use Rattle.std.specs.Prelude.{◌≡◌, length};
 ghost use Rattle.refusals.specs.Codes.{outcome};
 ghost use Rattle.blocks.specs.Ciphers.{length_answer, replaced};
 ghost use Rattle.kuznyechik.specs.Cipher.{OfBytes, enciphered, deciphered, kuznyechik};
+ghost use Rattle.kuznyechik.specs.law.Undoing.{kuznyechik_lawful};
 
 use crate::steps::{round, unround};
 use blocks::{BlockCipher, byte_count, judge_length, xor_into};
@@ -52,6 +53,8 @@ impl<'a> Kuznyechik<'a> {
 
 impl BlockCipher for Kuznyechik<'_> {
     ghost map = { λ c. kuznyechik c.keys.now };
+
+    ghost lawful = { λ c. kuznyechik_lawful c.keys.now c.bytes };
 
     fn block_length(&self) -> usize {
         16

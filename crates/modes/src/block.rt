@@ -47,7 +47,6 @@ impl<C: BlockCipher> Chain<'_, C> {
 /// Deciphers block `i` of a body into the front of a buffer of a block's length, and says how many
 /// bytes it has. The rest of the buffer stays as it was, and all of it at a refusal: a buffer of
 /// another length; what `encipher_text` refuses; a block that there is not.
-#[tactic(auto, using(crate::proofs::Plain::reach_judged))]
 pub fn decipher_block<C: BlockCipher>(
     cipher: &C,
     mode: Mode,

@@ -55,7 +55,6 @@ impl<C: BlockCipher> Chain<'_, C> {
 
 /// Enciphers a text in place. A sync that does not agree with the mode, or counter with a cipher of
 /// sixteen bytes, is refused; so is a text in codebook whose length is no multiple of the block's.
-#[tactic(auto, using(crate::proofs::Plain::undo_judged))]
 pub fn encipher_text<C: BlockCipher>(
     cipher: &C,
     mode: Mode,

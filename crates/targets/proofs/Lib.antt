@@ -1,5 +1,4 @@
 mod Answered
-mod Formed
 pub mod Kept
 mod Pages
 mod Put

@@ -24,12 +24,3 @@ pub page_at : (n count : ℕ) (memory : List ℕ) (p : ℕ) → p < count → ge
 page_at n zero memory p l = absurd (omega arith)
 page_at n (suc count) memory zero l = grind (arith, common_steps)
 page_at n (suc count) memory (suc q) l = grind (arith, common_steps, page_at n count (drop n memory) q (omega arith))
-
-pub pages_length : (n count : ℕ) (memory : List ℕ) → length (pages_in n count memory) ≡ count
-pages_length n zero memory = refl
-pages_length n (suc count) memory = omega (arith, pages_length n count (drop n memory))
-
--- each holds n bytes
-pub pages_held : (n count : ℕ) (memory : List ℕ) → count * n ≤ length memory → Bytes memory → AllByRecursion (Block n) (pages_in n count memory)
-pages_held n zero memory h bytes = tt
-pages_held n (suc count) memory h bytes = search (rules, length-take-le, length-drop, All-take, All-drop, pages_held n count (drop n memory))

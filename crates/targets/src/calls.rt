@@ -2,6 +2,7 @@
 
 ghost use Rattle.std.specs.Prelude.{◌≡◌, ◌+◌, ◌*◌, ◌<◌};
 ghost use Rattle.targets.specs.Paged.{state_of};
+ghost use Rattle.targets.specs.law.Formed.{formed};
 
 use crate::Target;
 use crate::kinds::Kind;
@@ -24,6 +25,8 @@ impl<K: Kind> Paged<'_, K> {
 
 impl<K: Kind> Target for Paged<'_, K> {
     ghost state = { state_of K.REWRITABLE };
+
+    ghost formed = { λ t. formed K.REWRITABLE t.page_length t.page_count t.fill t.memory.now t.locked t.ready t.sized t.counted t.exact t.filled t.held t.lock_marks t.ready_marks };
 
     fn page_length(&self) -> u32 {
         self.page_length

@@ -4,8 +4,8 @@
 //! what each page holds, which pages are locked and which are ready, and whether it is rewritable.
 //! What the calls answer and do is defined in specs/Calls.antt, and what holds over every sequence of
 //! calls in specs/Laws.antt. Code above is written and proved once, against that meaning.
-//! `WellFormed` is the law of the interface; it stands on `page_length`, so that each target has to
-//! show it and every caller has it.
+//! `formed` is the law of the interface: each target shows it, and generic code has it of every
+//! target.
 //!
 //! Open results: none.
 
@@ -29,10 +29,9 @@ use refusals::Refusal;
 pub trait Target {
     ghost state: { Self → TargetState };
 
-    /// Bytes in a page. With it comes the law of the interface.
+    /// Bytes in a page.
     fn page_length(&self) -> u32
-        ensures value { result ≡ (state self.now).page_length }
-        ensures formed { WellFormed (state self.now) };
+        ensures value { result ≡ (state self.now).page_length };
 
     /// How many pages there are.
     fn page_count(&self) -> u32
@@ -58,4 +57,7 @@ pub trait Target {
     fn read(&self, page: u32, out: &mut [u8]) -> Result<(), Refusal>
         ensures answer { outcome result ≡ read_answer (state self.now) page (length out.old) }
         ensures out { out.new ≡ read_out (state self.now) page out.old };
+
+    // The law of the interface.
+    ghost formed: { (t : Self) → WellFormed (state t) };
 }

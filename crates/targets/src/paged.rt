@@ -23,6 +23,8 @@ pub struct Paged<'a, K> {
     ghost counted: { page_count ≤ 1024 },
     ghost exact: { length memory.now ≡ page_length * page_count },
     // What the types say of the bytes, for the law of the interface.
+    ghost lock_marks: { length locked ≡ 1024 },
+    ghost ready_marks: { length ready ≡ 1024 },
     ghost filled: { fill < 256 },
     ghost held: { Bytes memory.now } by { Prim.hlevel props },
 }

@@ -6,7 +6,7 @@ use Rattle.blocks.specs.Bytes.{Bytes}
 use Rattle.blocks.specs.Ciphers.{Lawful}
 use Rattle.gost.specs.Rounds.{mixed, round, last_round, forward}
 use Rattle.gost.specs.Cipher.{registers, block_of, enciphered, sixteen}
-use Rattle.gost.proofs.Undoing.{gost_lawful}
+use Rattle.gost.specs.law.Undoing.{gost_lawful}
 use Rattle.imitovstavka.specs.Chain.{absorbed, imitovstavka}
 use Rattle.targets.specs.State.{WellFormed}
 use Rattle.downloads.specs.Copies.{Copies}

@@ -33,9 +33,7 @@ pub(crate) fn perform<C: BlockCipher, T: Target>(
     ensures bytes { OfBytes (call_of call.entry) }
     ensures performs { PerformsOn C.BlockCipher.map T.Target.state (section_of phase) (closed_in phase) (closed_in result.phase) bench.old bench.new (call_of call.entry) (answer_of result.answer) }
 {
-    // With these come the laws of the cipher and of the target, and that the body holds bytes.
-    let _n = bench.cipher.block_length();
-    let _long = bench.target.page_length();
+    // With this comes that the body holds bytes.
     bring_bytes(&bench.received);
     let section = phase.section();
     match call {

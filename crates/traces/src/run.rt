@@ -2,11 +2,9 @@
 
 ghost use Rattle.std.specs.Prelude.{◌≡◌, map, length, take, drop, Ok, Err};
 ghost use Rattle.refusals.specs.Codes.{Code, answer};
-ghost use Rattle.blocks.specs.Ciphers.{Lawful};
 ghost use Rattle.modes.specs.Calls.{mode_answer};
 ghost use Rattle.sections.specs.Entries.{Described};
 ghost use Rattle.sections.specs.Meaning.{sections_in};
-ghost use Rattle.targets.specs.State.{WellFormed};
 ghost use Rattle.downloads.specs.Frames.{block_of};
 ghost use Rattle.downloads.specs.States.{section_in as download_in};
 ghost use Rattle.downloads.specs.Received.{body_in, marks_of};
@@ -57,14 +55,10 @@ fn run_calls<C: BlockCipher, T: Target>(
     Progress { phase, made }
 }
 
-/// What the cipher, the target and the section of a download keep. Nothing is computed.
-fn bring_laws<C: BlockCipher, T: Target>(cipher: &C, target: &T, state: &Receiving)
-    ensures cipher { Lawful (C.BlockCipher.map cipher.now) }
-    ensures target { WellFormed (T.Target.state target.now) }
-    ensures mode { mode_answer (block_of (download_in state.now)) (download_in state.now).mode (download_in state.now).sync (download_in state.now).length ≡ Ok tt }
+/// The section of a download keeps that its mode agrees with it. Nothing is computed.
+fn bring_mode(state: &Receiving)
+    ensures { mode_answer (block_of (download_in state.now)) (download_in state.now).mode (download_in state.now).sync (download_in state.now).length ≡ Ok tt }
 {
-    let _n = cipher.block_length();
-    let _long = target.page_length();
     let _section = state.section();
 }
 
@@ -91,7 +85,7 @@ pub fn run<C: BlockCipher, T: Target>(
         return Err(Refusal::new(Reason::WrongBuffer, 0, Layer::Download));
     }
     let state = open(listing, number, bench.cipher, &mut bench.received)?;
-    bring_laws(bench.cipher, bench.target, &state);
+    bring_mode(&state);
     let phase = Phase::Receiving(state);
     Ok(run_calls(phase, bench, calls, answers, until))
 }

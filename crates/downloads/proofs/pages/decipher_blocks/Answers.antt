@@ -27,5 +27,5 @@ loop-b-preserved g c =
     let room : map.size * b + map.size ≤ length was =
     subst (λ (m : ℕ). m * b + m ≤ length was) (sym size) (omega (arith, c.requires.room.0, mul-le-mul_left (block_of s) le, mul-add (block_of s) b 1, mul-one (block_of s))) in
     subst (λ (k : ℕ). put_mid (k * b) (k * b + k - k * b) page part ≡ front (joined (plain_of map s.mode s.sync body) from (b + 1)) was) (sym e)
-    (one_more map s body c.block_length-n.ensures.lawful size long (bytes_from body (λ i. omega (arith, c.type_inv.body i))) c.args.section.now.agreed c.args.section.now.whole from b page was part fits c.loop-b.invariant room
+    (one_more map s body (g.met.C.BlockCipher.lawful c.args.cipher.now) size long (bytes_from body (λ i. omega (arith, c.type_inv.body i))) c.args.section.now.agreed c.args.section.now.whole from b page was part fits c.loop-b.invariant room
     (subst (λ (k : ℕ). part ≡ buffer_after map s.mode s.sync body (from + b) (take (k * b + k - k * b) (drop (k * b) page))) e c.decipher_block.ensures.out))

@@ -17,7 +17,7 @@ returns g c =
     let j = c.args.j in
     let same : c.from-j.result ≡ j = c.from-j.ensures in
     c.refused_at.ensures
-    ∙ page_found s (body_in r) (marks_of r) P j (ap allowed_length value ∙ c.page_length-long.ensures.formed.sized) (subst (λ (k : ℕ). k * P < s.length) same c.if-j-long.false)
+    ∙ page_found s (body_in r) (marks_of r) P j (ap allowed_length value ∙ (g.met.T.Target.formed c.args.target.now).sized) (subst (λ (k : ℕ). k * P < s.length) same c.if-j-long.false)
     n c.blocks-2.result c.page_count.result c.block_length.ensures c.requires c.blocks-2.ensures (omega arith)
     c.first_missing-missing.result c.first_needed-needed.result c.min-end.result
     (c.first_needed-needed.ensures ∙ ap (λ (k : ℕ). first_needed s.mode (k * (P / n))) same) (c.min-end.ensures ∙ ap (λ (k : ℕ). min (k * (P / n) + P / n) c.blocks-2.result) same)

@@ -47,7 +47,7 @@ returns g c =
     let ends : first_in P s j + count_in P s j ≤ block_count map.size (length body) =
     subst (λ (k : ℕ). first_in P s j + count_in P s j ≤ k) (ap₂ (λ (a b : ℕ). block_count a b) (sym c.requires.parts.0) (sym long)) (page_ends s P j c.requires.page c.requires.inside) in
     let run : length J ≡ min (block_of s * count_in P s j) (s.length - block_of s * first_in P s j) =
-    run_length map s body c.block_length-n.ensures.lawful c.requires.parts.0 long (bytes_from body (λ i. omega (arith, c.type_inv.body i))) c.args.section.now.agreed c.args.section.now.whole (first_in P s j) (count_in P s j) ends
+    run_length map s body (g.met.C.BlockCipher.lawful c.args.cipher.now) c.requires.parts.0 long (bytes_from body (λ i. omega (arith, c.type_inv.body i))) c.args.section.now.agreed c.args.section.now.whole (first_in P s j) (count_in P s j) ends
     ∙ ap₂ (λ (a b : ℕ). min (a * count_in P s j) (b - a * first_in P s j)) c.requires.parts.0 long in
     let fits : length page ≡ P = c.decipher_blocks.auto.page in
     let end : c.min-end.result ≡ length J =

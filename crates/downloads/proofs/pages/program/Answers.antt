@@ -65,7 +65,7 @@ prepare-requires g c =
     let ok = page_granted s t (copies_of (block_of s) r) c.args.j (sym c.in_ok-judge_page.ensures) in
     record {
       parts = (parts.size, (store_parts s (length (body_in r)) (length (marks_of r)) parts.store).0);
-      page = ap allowed_length parts.room_is ∙ c.page_length-long.ensures.formed.sized;
+      page = ap allowed_length parts.room_is ∙ (g.met.T.Target.formed c.args.target.now).sized;
       inside = subst (λ (k : ℕ). k < s.length) (ap₂ (λ (a b : ℕ). a * b) (sym c.from.ensures) (sym parts.room_is)) ok.inside;
     }
 
@@ -83,7 +83,7 @@ returns g c =
     let judged = c.in_ok-judge_page.ensures in
     let ok = page_granted s t (copies_of (block_of s) r) j (sym judged) in
     let buffer = c.prepare.new.page in
-    let made = made_is map s (body_in r) (marks_of r) t j page parts.size c.page_length-long.ensures.formed.sized ok (length page) c.fill.result buffer parts.room_is c.fill.ensures
+    let made = made_is map s (body_in r) (marks_of r) t j page parts.size (g.met.T.Target.formed c.args.target.now).sized ok (length page) c.fill.result buffer parts.room_is c.fill.ensures
     (c.prepare.ensures ∙ ap (λ (k : ℕ). filled_up (length page) c.fill.result (joined (plain_of map s.mode s.sync (body_in r)) (first_in (length page) s k) (count_in (length page) s k))) c.from.ensures) in
     let place : s.first_page + c.from-2.result ≡ s.first_page + j = ap (λ (b : ℕ). s.first_page + b) c.from-2.ensures in
     let w = program_done map s (body_in r) (marks_of r) t j page right judged _ _ buffer made (c.prepare.auto.page ∙ parts.room_is)
@@ -95,4 +95,4 @@ overflow_add-place g c =
     let s = meaning_of c.args.section.now in
     let t = g.T.Target.state c.args.target.now in
     let ok = page_granted s t (copies_of (block_of s) c.args.received.now) c.args.j (sym c.in_ok-judge_page.ensures) in
-    omega (arith, ok.there, c.page_length-long.ensures.formed.counted)
+    omega (arith, ok.there, (g.met.T.Target.formed c.args.target.now).counted)

@@ -17,7 +17,7 @@ loop-k-init g c =
     let s = meaning_of c.args.section.now in
     let t = g.T.Target.state c.args.target.now in
     let E = sixteen (rows_in c.args.tag) (words_in c.args.tag) in
-    (c.new-chain.ensures.map, subst (λ (x : List ℕ). Summed s t E 0 x c.args.page.now) (sym c.new-chain.ensures.state) (summed_first s t E c.requires.formed c.requires.there c.args.page.now))
+    (c.new-chain.ensures.map, subst (λ (x : List ℕ). Summed s t E 0 x c.args.page.now) (sym c.new-chain.ensures.state) (summed_first s t E (g.met.T.Target.formed c.args.target.now) c.requires.there c.args.page.now))
 
 pub loop-k-preserved : goal.loop-k-preserved
 loop-k-preserved g c =
@@ -29,12 +29,12 @@ loop-k-preserved g c =
     let was = c.loop-k.invariant in
     let page = c.read.new.out in
     let many : c.div_ceil-k-end.result ≡ pages_for t.page_length s.length =
-    c.div_ceil-k-end.ensures ∙ count_ceil (length c.args.page.now) t.page_length s.length c.requires.room (omega (arith, (page_parts t.page_length c.requires.formed.sized).0)) in
+    c.div_ceil-k-end.ensures ∙ count_ceil (length c.args.page.now) t.page_length s.length c.requires.room (omega (arith, (page_parts t.page_length (g.met.T.Target.formed c.args.target.now).sized).0)) in
     let within : k < pages_for t.page_length s.length = omega (arith, many, c.loop-k-test.true) in
     let read : page ≡ page_of t (s.first_page + k) =
     c.read.ensures.out ∙ read_is t (s.first_page + k) c.loop-k.page (omega (arith, c.requires.there, within)) (c.loop-k.auto.page ∙ c.requires.room) in (
       c.absorb.ensures.map ∙ was.0,
-      summed_next s t E c.requires.formed c.requires.there k count (state_in c.loop-k.chain) (state_in c.absorb.new.self) c.loop-k.page page within was.1 read
+      summed_next s t E (g.met.T.Target.formed c.args.target.now) c.requires.there k count (state_in c.loop-k.chain) (state_in c.absorb.new.self) c.loop-k.page page within was.1 read
           (c.min-count.ensures ∙ ap (λ (n : ℕ). min (s.length - n * k) n) c.requires.room)
           (λ before whole e.
           c.absorb.ensures.together before whole (e ∙ ap (λ (F : List ℕ → List ℕ). absorbed F start before) (sym was.0))
@@ -48,10 +48,10 @@ returns g c =
     let E = sixteen (rows_in c.args.tag) (words_in c.args.tag) in
     let was = c.loop-k.invariant.1 in
     let many : c.div_ceil-k-end.result ≡ pages_for t.page_length s.length =
-    c.div_ceil-k-end.ensures ∙ count_ceil (length c.args.page.now) t.page_length s.length c.requires.room (omega (arith, (page_parts t.page_length c.requires.formed.sized).0)) in
+    c.div_ceil-k-end.ensures ∙ count_ceil (length c.args.page.now) t.page_length s.length c.requires.room (omega (arith, (page_parts t.page_length (g.met.T.Target.formed c.args.target.now).sized).0)) in
     let all : c.loop-k.k ≡ pages_for t.page_length s.length = omega (arith, many, c.loop-k-test.false, c.loop-k.auto.k-end) in
     record {
       value = value_is (rows_in c.args.tag) (words_in c.args.tag) s (image_on s t) (state_in c.loop-k.chain) _ c.value.result
-          (summed_all s t E c.requires.formed c.requires.there c.loop-k.k (state_in c.loop-k.chain) c.loop-k.page all was) c.tag_length.ensures c.value.ensures;
-      page = last_read s t E c.requires.formed c.requires.there c.loop-k.k (state_in c.loop-k.chain) c.loop-k.page all (image_some s.length c.args.section.now.allowed) was;
+          (summed_all s t E (g.met.T.Target.formed c.args.target.now) c.requires.there c.loop-k.k (state_in c.loop-k.chain) c.loop-k.page all was) c.tag_length.ensures c.value.ensures;
+      page = last_read s t E (g.met.T.Target.formed c.args.target.now) c.requires.there c.loop-k.k (state_in c.loop-k.chain) c.loop-k.page all (image_some s.length c.args.section.now.allowed) was;
     }

@@ -1,5 +1,5 @@
 use Rattle.std.proofs.Common.{◌∙◌, rules}
-use Rattle.gost.proofs.Nibbles.{rotated_or}
+use Rattle.gost.specs.law.Nibbles.{rotated_or}
 use Rattle.gost.proofs.rounds.rotate.Goals as goal
 
 pub returns : goal.returns

@@ -1,7 +1,7 @@
 use Rattle.std.proofs.Common.{◌≡◌, ◌+◌, ◌-◌, sym, ◌∙◌, arith}
 use lib.Bits.{xor_zero_r}
 use Rattle.kuznyechik.specs.Field.{product}
-use Rattle.kuznyechik.proofs.Products.{bits_times_more}
+use Rattle.kuznyechik.specs.law.Products.{bits_times_more}
 use Rattle.kuznyechik.proofs.field.multiply.Goals as goal
 
 pub loop-i-preserved : goal.loop-i-preserved

@@ -31,7 +31,7 @@ returns-in-Frame-clause-performs g c =
 pub returns-in-Give-clause-performs : goal.returns-in-Give-clause-performs
 returns-in-Give-clause-performs g c =
     as_came (ap call_of c.in-Give.is)
-    (performs_give g.C.BlockCipher.map g.T.Target.state (section_of c.args.phase) c.args.bench.now c.requires c.section-section.result c.section-section.ensures c.block_length-n.ensures.lawful c.page_length-long.ensures.formed
+    (performs_give g.C.BlockCipher.map g.T.Target.state (section_of c.args.phase) c.args.bench.now c.requires c.section-section.result c.section-section.ensures (g.met.C.BlockCipher.lawful c.args.bench.now.cipher.now) (g.met.T.Target.formed c.args.bench.now.target.now)
     c.bring_bytes.ensures (closed_in c.args.phase) c.in-Give.block _ c.on_give-answer.ensures)
 
 pub returns-in-Erase-clause-performs : goal.returns-in-Erase-clause-performs
@@ -44,7 +44,7 @@ pub returns-in-Program-clause-performs : goal.returns-in-Program-clause-performs
 returns-in-Program-clause-performs g c =
     let e = c.program-said.ensures in
     as_came (ap call_of c.in-Program.is)
-    (performs_program g.C.BlockCipher.map g.T.Target.state (section_of c.args.phase) c.args.bench.now c.requires c.section-section.result c.section-section.ensures c.block_length-n.ensures.lawful c.page_length-long.ensures.formed
+    (performs_program g.C.BlockCipher.map g.T.Target.state (section_of c.args.phase) c.args.bench.now c.requires c.section-section.result c.section-section.ensures (g.met.C.BlockCipher.lawful c.args.bench.now.cipher.now) (g.met.T.Target.formed c.args.bench.now.target.now)
     c.bring_bytes.ensures (closed_in c.args.phase) c.in-Program.j _ (g.T.Target.state c.program-said.new.target) c.program-said.new.page
     (c.into-answer-in-Program.ensures ∙ ap (λ r. answered r done) e.answer) e.target e.page)
 

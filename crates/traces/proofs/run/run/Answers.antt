@@ -28,9 +28,8 @@ returns-clause-runs g c d q =
     let opens = c.in_ok-state.ensures in
     let ok = opened listing c.args.number n (length body) (length marks) s opens.answer in
     let clean = record_cleared listing c.args.number n (length body) marks (marks_of r) s opens.answer opens.arrivals in
-    let laws = c.bring_laws.ensures in
     let w = setting_on cipher s b in
-    let fit : Fit w t = record { lawful = laws.cipher; sized = ok.0; mode = laws.mode; target = laws.target } in
+    let fit : Fit w t = record { lawful = g.met.C.BlockCipher.lawful c.args.bench.now.cipher.now; sized = ok.0; mode = c.bring_mode.ensures; target = g.met.T.Target.formed c.args.bench.now.target.now } in
     let p = c.run_calls.result in
     let calls = map call_of (take p.made c.args.calls.now) in
     let told = map answer_of (take p.made c.run_calls.new.answers) in

@@ -1,5 +1,5 @@
 use Rattle.std.proofs.Common.{arith}
-use Rattle.gost.proofs.Feistel.{backward_closed}
+use Rattle.gost.specs.law.Feistel.{backward_closed}
 use Rattle.gost.proofs.cipher.Gost.backward.Goals as goal
 
 pub returns : goal.returns

@@ -1,5 +1,5 @@
 use Rattle.std.proofs.Common.{arith}
-use Rattle.gost.proofs.Feistel.{forward_closed}
+use Rattle.gost.specs.law.Feistel.{forward_closed}
 use Rattle.gost.proofs.cipher.Gost.forward.Goals as goal
 
 pub returns : goal.returns

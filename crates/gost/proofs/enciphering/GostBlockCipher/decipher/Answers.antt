@@ -1,7 +1,7 @@
 use Rattle.std.proofs.Common.{◌≡◌, rules}
 use Rattle.blocks.proofs.Lengths.{back}
 use Rattle.gost.specs.Cipher.{deciphered, gost}
-use Rattle.gost.proofs.Undoing.{gost_lawful}
+use Rattle.gost.specs.law.Undoing.{gost_lawful}
 use Rattle.gost.proofs.enciphering.GostBlockCipher.decipher.Goals as goal
 
 pub returns : goal.returns

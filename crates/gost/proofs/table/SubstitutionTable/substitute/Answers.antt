@@ -1,5 +1,5 @@
 use Rattle.std.proofs.Common.{arith}
-use Rattle.gost.proofs.Nibbles.{row_more}
+use Rattle.gost.specs.law.Nibbles.{row_more}
 use Rattle.gost.proofs.table.SubstitutionTable.substitute.Goals as goal
 
 pub loop-place-preserved : goal.loop-place-preserved

@@ -1,5 +1,5 @@
 use Rattle.std.proofs.Common.{arith, below_more}
-use Rattle.kuznyechik.proofs.Undoing.{bytes_at}
+use Rattle.kuznyechik.specs.law.Undoing.{bytes_at}
 use Rattle.kuznyechik.proofs.cipher.Kuznyechik.new.Goals as goal
 
 pub loop-key-preserved : goal.loop-key-preserved

@@ -1,6 +1,6 @@
 use Rattle.blocks.proofs.Lengths.{back}
 use Rattle.kuznyechik.specs.Cipher.{kuznyechik}
-use Rattle.kuznyechik.proofs.Undoing.{kuznyechik_lawful}
+use Rattle.kuznyechik.specs.law.Undoing.{kuznyechik_lawful}
 use Rattle.kuznyechik.proofs.cipher.KuznyechikBlockCipher.decipher.Goals as goal
 
 pub returns-clause-undone : goal.returns-clause-undone

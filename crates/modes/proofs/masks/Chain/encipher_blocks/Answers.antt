@@ -13,7 +13,7 @@ loop-i-preserved g c =
     let s = c.args.self.now in
     let map = g.C.BlockCipher.map s.cipher.now in
     let image = c.args.text.now in
-    let law = c.block_length-n.ensures.lawful in
+    let law = g.met.C.BlockCipher.lawful s.cipher.now in
     let size = c.block_length-n.ensures.value in
     let i = c.loop-i.i in
     let at : c.block_length-n.result * i ≡ map.size * i = ap (λ (m : ℕ). m * i) size in
@@ -30,7 +30,7 @@ returns g c =
     let s = c.args.self.now in
     let map = g.C.BlockCipher.map s.cipher.now in
     let image = c.args.text.now in
-    let law = c.block_length-n.ensures.lawful in
+    let law = g.met.C.BlockCipher.lawful s.cipher.now in
     let count = c.div_ceil-i-end.ensures ∙ count_ceil c.block_length-n.result map.size (length image) c.block_length-n.ensures.value (some_size map law) in
     let ends : c.loop-i.i ≡ block_count map.size (length image) = omega (arith, c.loop-i-test.false, c.loop-i.auto.i-end, count) in
     all (chaining map s.mode s.sync) image c.requires.bytes (agreed_sound map s.mode s.sync (length image) law s.agreed c.requires.whole) c.loop-i.i c.loop-i.text c.loop-i.pad ends c.loop-i.invariant

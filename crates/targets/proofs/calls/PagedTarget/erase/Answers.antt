@@ -1,9 +1,12 @@
-use Rattle.std.proofs.Common.{◌≡◌, ◌<◌, true, replicate, arith, rules}
-use Rattle.std.proofs.lemmas.List.{length-replicate}
+use Rattle.std.proofs.Common.{◌≡◌, ◌<◌, true, replicate, arith, rules, ◌∙◌}
+use Rattle.std.proofs.lemmas.List.{length-set, length-replicate}
 use Rattle.blocks.proofs.Words.{bytes_from}
 use Rattle.targets.proofs.Kept.{locks_keep}
 use Rattle.targets.proofs.Put.{written}
 use Rattle.targets.proofs.calls.PagedTarget.erase.Goals as goal
+
+pub invariant_of-self-clause-ready_marks : goal.invariant_of-self-clause-ready_marks
+invariant_of-self-clause-ready_marks g c = length-set c.args.self.now.ready c.args.page true ∙ c.args.self.now.ready_marks
 
 pub returns-in_err-may_erase-clause-locks : goal.returns-in_err-may_erase-clause-locks
 returns-in_err-may_erase-clause-locks g c = locks_keep _

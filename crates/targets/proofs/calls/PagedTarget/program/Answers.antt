@@ -1,8 +1,16 @@
-use Rattle.std.proofs.Common.{◌<◌, rules}
+use Rattle.std.proofs.Common.{◌<◌, rules, ◌∙◌, arith}
+use Rattle.std.proofs.lemmas.List.{length-set}
+use Rattle.blocks.proofs.Words.{bytes_from}
 use Rattle.targets.proofs.Kept.{reads_back}
-use Rattle.targets.proofs.Pages.{pages_length}
+use Rattle.targets.specs.law.Formed.{pages_length}
 use Rattle.targets.proofs.Put.{written}
 use Rattle.targets.proofs.calls.PagedTarget.program.Goals as goal
+
+pub invariant_of-self-clause-held : goal.invariant_of-self-clause-held
+invariant_of-self-clause-held g c = bytes_from _ (λ i. grind arith)
+
+pub invariant_of-self-clause-ready_marks : goal.invariant_of-self-clause-ready_marks
+invariant_of-self-clause-ready_marks g c = length-set c.args.self.now.ready c.args.page _ ∙ c.args.self.now.ready_marks
 
 pub returns-clause-after : goal.returns-clause-after
 returns-clause-after g c =

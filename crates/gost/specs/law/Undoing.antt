@@ -10,8 +10,8 @@ use Rattle.gost.specs.declared.rounds.Registers.{Registers}
 use Rattle.gost.specs.Tables.{Rows, Checked, substituted}
 use Rattle.gost.specs.Rounds.{mixed, round, rounds, closed_rounds, forward, backward, twice}
 use Rattle.gost.specs.Cipher.{registers, block_of, enciphered, deciphered, sixteen, gost}
-use Rattle.gost.proofs.Nibbles.{substituted_lt}
-use Rattle.gost.proofs.Feistel.{closed_is, closed_back, backward_is, forward_is}
+use Rattle.gost.specs.law.Nibbles.{substituted_lt}
+use Rattle.gost.specs.law.Feistel.{closed_is, closed_back, backward_is, forward_is}
 
 -- both registers hold 32 bits
 abbrev pub Fits32 : Registers → Type 0

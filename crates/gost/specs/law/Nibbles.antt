@@ -5,7 +5,7 @@ use Rattle.std.proofs.Math.Nat.{mul-le-mul_left}
 use Rattle.std.proofs.lemmas.Nat.{shr-shr, shl_whole, or_comm, or_shifted, shr_below, and_mask}
 use Rattle.gost.specs.Tables.{Rows, narrow_rows, substituted}
 use Rattle.gost.specs.Rounds.{rotated}
-use Rattle.gost.proofs.Narrow.{row_narrow, rows_narrow, first_row, next_rows}
+use Rattle.gost.specs.law.Narrow.{row_narrow, rows_narrow, first_row, next_rows}
 
 -- one row more: the nibble at its place
 substituted_more : (rows : Rows) (x i : ℕ) → i < length rows →

@@ -12,8 +12,8 @@ use Rattle.kuznyechik.specs.Pi.{pi, pi⁻¹}
 use Rattle.kuznyechik.specs.Field.{product}
 use Rattle.kuznyechik.specs.Steps.{X, S, S⁻¹, factors, combined, ℓ, R, R⁻¹, times, L, L⁻¹, LSX, XS⁻¹L⁻¹}
 use Rattle.kuznyechik.specs.Cipher.{OfBytes, enciphered, deciphered, kuznyechik}
-use Rattle.kuznyechik.proofs.Entries.{Entry, replaced, put_back}
-use Rattle.kuznyechik.proofs.Products.{product_lt, product_one}
+use Rattle.kuznyechik.specs.law.Entries.{Entry, replaced, put_back}
+use Rattle.kuznyechik.specs.law.Products.{product_lt, product_one}
 
 -- f takes blocks to blocks, and g undoes it
 pub record Undoes (g f : List ℕ → List ℕ) : Type 0 where
