@@ -22,10 +22,10 @@ pub enum LineFault {
     NoSuchByte,
 }
 
-/// What is wrong, for a person.
-impl fmt::Display for LineFault {
-    fn fmt<W: fmt::Write>(&self, f: &mut fmt::Formatter<W>) -> fmt::Result {
-        f.write_str(match self {
+impl LineFault {
+    /// What is wrong, for a person.
+    pub fn text(self) -> &'static str {
+        match self {
             LineFault::UnknownWord => {
                 "the first word is section, frame, drop, repeat, give, erase, program, close, reopen or verify"
             }
@@ -43,7 +43,13 @@ impl fmt::Display for LineFault {
             LineFault::Number => "a number is written in decimal digits, 0 to 4294967295",
             LineFault::Bit => "a bit is 0 to 7",
             LineFault::NoSuchByte => "the frame has no such byte to flip",
-        })
+        }
+    }
+}
+
+impl fmt::Display for LineFault {
+    fn fmt<W: fmt::Write>(&self, f: &mut fmt::Formatter<W>) -> fmt::Result {
+        f.write_str(self.text())
     }
 }
 
