@@ -6,6 +6,7 @@ use Rattle.sections.specs.Entries.{Described}
 use Rattle.targets.specs.State.{TargetState}
 use Rattle.downloads.specs.declared.arrivals.Arrival.{Arrival}
 use Rattle.downloads.specs.declared.received.Received.{Received}
+use Rattle.downloads.specs.declared.received.ReceivedRef.{ReceivedRef}
 use Rattle.downloads.specs.Marks.{marks_in}
 use Rattle.downloads.specs.Copies.{Copies, copies_in}
 use Rattle.downloads.specs.Frames.{block_of, good_store, open_answer, frame_answer, close_answer}
@@ -20,13 +21,24 @@ body_in r = r.body.now
 abbrev pub marks_of : Received → List Arrival
 marks_of r = marks_in r.arrivals.now
 
+-- both, lent to be written or only to be read
+pub record Held : Type 0 where
+  pub body : List ℕ
+  pub marks : List Arrival
+
+abbrev pub held_in : Received → Held
+held_in r = record { body = body_in r; marks = marks_of r }
+
+abbrev pub held_by : ReceivedRef → Held
+held_by r = record { body = r.body.now; marks = marks_in r.arrivals.now }
+
 -- the copies that they hold, in blocks of n bytes
-abbrev pub copies_of : ℕ → Received → Copies
-copies_of n r = copies_in n (body_in r) (marks_of r)
+abbrev pub copies_of : ℕ → Held → Copies
+copies_of n h = copies_in n h.body h.marks
 
 -- they are as long as a section's must be
-abbrev pub stores : Described → Received → Bool
-stores s r = good_store s (length (body_in r)) (length (marks_of r))
+abbrev pub stores : Described → Held → Bool
+stores s h = good_store s (length h.body) (length h.marks)
 
 -- the same body and record are lent
 pub record SameLoans (r r' : Received) : Type 0 where
@@ -35,26 +47,26 @@ pub record SameLoans (r r' : Received) : Type 0 where
 
 -- ---- what the calls answer and leave
 
-abbrev pub open_said : List Described → ℕ → ℕ → Received → Result Described Code
-open_said listing number n r = open_answer listing number n (length (body_in r)) (length (marks_of r))
+abbrev pub open_said : List Described → ℕ → ℕ → Held → Result Described Code
+open_said listing number n h = open_answer listing number n (length h.body) (length h.marks)
 
-abbrev pub frame_said : Described → Received → ℕ → List ℕ → Result Unit Code
-frame_said s r f frame = frame_answer s (length (body_in r)) (length (marks_of r)) (copies_of (block_of s) r) f frame
+abbrev pub frame_said : Described → Held → ℕ → List ℕ → Result Unit Code
+frame_said s h f frame = frame_answer s (length h.body) (length h.marks) (copies_of (block_of s) h) f frame
 
-abbrev pub close_said : Described → Received → Result Unit Code
-close_said s r = close_answer s (length (body_in r)) (length (marks_of r)) (copies_of (block_of s) r)
+abbrev pub close_said : Described → Held → Result Unit Code
+close_said s h = close_answer s (length h.body) (length h.marks) (copies_of (block_of s) h)
 
-abbrev pub give_said : BlockMap → Described → Received → ℕ → ℕ → Result ℕ Code
-give_said c s r i room = give_answer c s (length (body_in r)) (length (marks_of r)) (copies_of (block_of s) r) i room
+abbrev pub give_said : BlockMap → Described → Held → ℕ → ℕ → Result ℕ Code
+give_said c s h i room = give_answer c s (length h.body) (length h.marks) (copies_of (block_of s) h) i room
 
-abbrev pub out_given : BlockMap → Described → Received → ℕ → List ℕ → List ℕ
-out_given c s r i out = out_after c s (length (body_in r)) (length (marks_of r)) (copies_of (block_of s) r) i out
+abbrev pub out_given : BlockMap → Described → Held → ℕ → List ℕ → List ℕ
+out_given c s h i out = out_after c s (length h.body) (length h.marks) (copies_of (block_of s) h) i out
 
-abbrev pub program_said : BlockMap → Described → Received → TargetState → ℕ → ℕ → Result Unit Code
-program_said c s r t room j = program_page_answer c s (length (body_in r)) (length (marks_of r)) t (copies_of (block_of s) r) room j
+abbrev pub program_said : BlockMap → Described → Held → TargetState → ℕ → ℕ → Result Unit Code
+program_said c s h t room j = program_page_answer c s (length h.body) (length h.marks) t (copies_of (block_of s) h) room j
 
-abbrev pub target_left : BlockMap → Described → Received → TargetState → ℕ → ℕ → TargetState
-target_left c s r t room j = target_programmed c s (length (body_in r)) (length (marks_of r)) t (copies_of (block_of s) r) room j
+abbrev pub target_left : BlockMap → Described → Held → TargetState → ℕ → ℕ → TargetState
+target_left c s h t room j = target_programmed c s (length h.body) (length h.marks) t (copies_of (block_of s) h) room j
 
-abbrev pub page_left : BlockMap → Described → Received → TargetState → ℕ → List ℕ → List ℕ
-page_left c s r t j out = buffer_after c s (length (body_in r)) (length (marks_of r)) t (copies_of (block_of s) r) j out
+abbrev pub page_left : BlockMap → Described → Held → TargetState → ℕ → List ℕ → List ℕ
+page_left c s h t j out = buffer_after c s (length h.body) (length h.marks) t (copies_of (block_of s) h) j out

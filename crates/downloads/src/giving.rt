@@ -4,10 +4,10 @@ ghost use Rattle.std.specs.Prelude.{◌≡◌, ◌+◌, ◌-◌, ◌<◌, true, 
 ghost use Rattle.refusals.specs.Codes.{answer, outcome};
 ghost use Rattle.sections.specs.Meaning.{meaning_of};
 ghost use Rattle.downloads.specs.Frames.{block_of};
-ghost use Rattle.downloads.specs.Received.{copies_of, stores, give_said, out_given};
+ghost use Rattle.downloads.specs.Received.{copies_of, held_by, stores, give_said, out_given};
 ghost use Rattle.downloads.specs.Blocks.{first_needed, give_judged};
 
-use crate::received::{Received, belongs, refused_at, sized};
+use crate::received::{ReceivedRef, belongs, refused_at, sized};
 use blocks::BlockCipher;
 use modes::block::decipher_block;
 use modes::mode::Mode;
@@ -25,9 +25,9 @@ pub(crate) fn first_needed(mode: Mode, i: u32) -> u32
 }
 
 /// Whether the section has block `i` and every cipher block that it depends on has arrived.
-fn judge_block(section: &Section, received: &Received<'_>, i: u32) -> Result<(), Refusal>
-    requires { stores (meaning_of section.now) received.now ≡ true }
-    ensures { outcome result ≡ give_judged (meaning_of section.now) (copies_of (block_of (meaning_of section.now)) received.now) i }
+fn judge_block(section: &Section, received: ReceivedRef<'_, '_>, i: u32) -> Result<(), Refusal>
+    requires { stores (meaning_of section.now) (held_by received) ≡ true }
+    ensures { outcome result ≡ give_judged (meaning_of section.now) (copies_of (block_of (meaning_of section.now)) (held_by received.entry)) i }
 {
     if i as usize >= received.arrivals.blocks() {
         return Err(Refusal::new(Reason::BadBlock, i, Layer::Download));
@@ -44,12 +44,12 @@ fn judge_block(section: &Section, received: &Received<'_>, i: u32) -> Result<(),
 pub fn give<C: BlockCipher>(
     section: &Section,
     cipher: &C,
-    received: &Received<'_>,
+    received: ReceivedRef<'_, '_>,
     i: u32,
     out: &mut [u8],
 ) -> Result<usize, Refusal>
-    ensures answer { answer (λ count. count) result ≡ give_said (C.BlockCipher.map cipher.now) (meaning_of section.now) received.now i (length out.old) }
-    ensures out { out.new ≡ out_given (C.BlockCipher.map cipher.now) (meaning_of section.now) received.now i out.old }
+    ensures answer { answer (λ count. count) result ≡ give_said (C.BlockCipher.map cipher.now) (meaning_of section.now) (held_by received.entry) i (length out.old) }
+    ensures out { out.new ≡ out_given (C.BlockCipher.map cipher.now) (meaning_of section.now) (held_by received.entry) i out.old }
 {
     sized(belongs(section, cipher, received))?;
     sized(out.len() == section.cipher.block_length())?;

@@ -9,11 +9,11 @@ ghost use Rattle.refusals.specs.declared.Reason.TheVariants.{NoSuchPage};
 ghost use Rattle.refusals.specs.declared.Layer.TheVariants.{Download as DownloadLayer};
 ghost use Rattle.sections.specs.Meaning.{meaning_of};
 ghost use Rattle.downloads.specs.Frames.{block_of, blocks_of};
-ghost use Rattle.downloads.specs.Received.{copies_of, stores, program_said, target_left, page_left};
+ghost use Rattle.downloads.specs.Received.{copies_of, held_by, stores, program_said, target_left, page_left};
 ghost use Rattle.downloads.specs.Pages.{first_in, count_in, filled_up, place_of, page_judged};
 
 use crate::giving::first_needed;
-use crate::received::{Received, belongs, refused_at, sized};
+use crate::received::{ReceivedRef, belongs, refused_at, sized};
 use blocks::BlockCipher;
 use modes::block::decipher_block;
 use refusals::{Layer, Reason, Refusal};
@@ -78,12 +78,12 @@ fn no_such_page(page: u64) -> Refusal
 /// cipher block that it needs has arrived.
 fn judge_page<T: Target>(
     section: &Section,
-    received: &Received<'_>,
+    received: ReceivedRef<'_, '_>,
     target: &T,
     j: u16,
 ) -> Result<(), Refusal>
-    requires { stores (meaning_of section.now) received.now ≡ true }
-    ensures { outcome result ≡ page_judged (meaning_of section.now) (T.Target.state target.now) (copies_of (block_of (meaning_of section.now)) received.now) j }
+    requires { stores (meaning_of section.now) (held_by received) ≡ true }
+    ensures { outcome result ≡ page_judged (meaning_of section.now) (T.Target.state target.now) (copies_of (block_of (meaning_of section.now)) (held_by received.entry)) j }
 {
     let j = u32::from(j);
     let long = target.page_length();
@@ -108,13 +108,13 @@ pub fn program<C: BlockCipher, T: Target>(
     section: &Section,
     cipher: &C,
     target: &mut T,
-    received: &Received<'_>,
+    received: ReceivedRef<'_, '_>,
     j: u16,
     page: &mut [u8],
 ) -> Result<(), Refusal>
-    ensures answer { outcome result ≡ program_said (C.BlockCipher.map cipher.now) (meaning_of section.now) received.now (T.Target.state target.old) (length page.old) j }
-    ensures target { T.Target.state target.new ≡ target_left (C.BlockCipher.map cipher.now) (meaning_of section.now) received.now (T.Target.state target.old) (length page.old) j }
-    ensures page { page.new ≡ page_left (C.BlockCipher.map cipher.now) (meaning_of section.now) received.now (T.Target.state target.old) j page.old }
+    ensures answer { outcome result ≡ program_said (C.BlockCipher.map cipher.now) (meaning_of section.now) (held_by received.entry) (T.Target.state target.old) (length page.old) j }
+    ensures target { T.Target.state target.new ≡ target_left (C.BlockCipher.map cipher.now) (meaning_of section.now) (held_by received.entry) (T.Target.state target.old) (length page.old) j }
+    ensures page { page.new ≡ page_left (C.BlockCipher.map cipher.now) (meaning_of section.now) (held_by received.entry) (T.Target.state target.old) j page.old }
 {
     let long = target.page_length() as usize;
     sized(belongs(section, cipher, received))?;

@@ -11,7 +11,7 @@ mod tests {
     use downloads::frames::open;
     use downloads::giving::give;
     use downloads::pages::program;
-    use downloads::received::Received;
+    use downloads::received::{Received, ReceivedRef};
     use downloads::state::{Closed, Download, Receiving, Refused, Verdict};
     use gost::cipher::Gost;
     use gost::table::SubstitutionTable;
@@ -257,8 +257,8 @@ mod tests {
         rt: &impl Abort,
         sealed: &'a Sealed,
         cipher: &'a C,
-        target: &'a mut T,
-        page: &'a mut [u8],
+        target: &mut T,
+        page: &mut [u8],
         steps: &[(Call<'_>, Told)],
     ) -> Result<After, Fail>
         requires { length steps.now ≤ 32 }
@@ -377,7 +377,7 @@ mod tests {
     {
         let sealed = sealing(cipher, kind, mode, 1, long)?;
         let end = long as usize;
-        let sent = sealed.body;
+        let sent = &sealed.body;
         let mut memory = [9; 192];
         let mut flash = Flash::new(&mut memory, 16, 12, 255, &OPEN)?;
         let mut page = [0; 16];
@@ -711,7 +711,7 @@ mod tests {
         section: &Section,
         cipher: &C,
         target: &mut T,
-        received: &Received<'_>,
+        received: ReceivedRef<'_, '_>,
         j: u16,
         wanted: Told,
         prepared: &[u8],
@@ -748,31 +748,76 @@ mod tests {
         let sent = &sealed.body;
         let mut body = [0; 43];
         let mut arrivals = ArrivalRecord::new(6)?;
+        let state = open(&sealed.listing, 1, &cipher, &body, &mut arrivals)?;
         let mut received = Received {
             body: &mut body,
             arrivals: &mut arrivals,
         };
-        let state = open(&sealed.listing, 1, &cipher, &mut received)?;
         let section = state.section();
         for (j, wanted) in [(3u16, no(13, 4)), (65535, no(13, 65536)), (0, no(12, 0))] {
-            programs(rt, &section, &cipher, target, &received, j, wanted, &[])?;
+            programs(
+                rt,
+                &section,
+                &cipher,
+                target,
+                received.shared(),
+                j,
+                wanted,
+                &[],
+            )?;
         }
         let state = takes(state, &mut received, 2, &sent[16..32])?;
-        programs(rt, &section, &cipher, target, &received, 1, no(12, 1), &[])?;
+        programs(
+            rt,
+            &section,
+            &cipher,
+            target,
+            received.shared(),
+            1,
+            no(12, 1),
+            &[],
+        )?;
         let state = takes(state, &mut received, 1, &sent[8..16])?;
-        programs(rt, &section, &cipher, target, &received, 0, no(12, 0), &[])?;
+        programs(
+            rt,
+            &section,
+            &cipher,
+            target,
+            received.shared(),
+            0,
+            no(12, 0),
+            &[],
+        )?;
         let unready = Told::Refused(14, 2, 4);
         let second = &IMAGE[16..32];
-        programs(rt, &section, &cipher, target, &received, 1, unready, second)?;
+        programs(
+            rt,
+            &section,
+            &cipher,
+            target,
+            received.shared(),
+            1,
+            unready,
+            second,
+        )?;
         let state = takes(state, &mut received, 5, &sent[40..43])?;
         let _ = takes(state, &mut received, 4, &sent[32..40])?;
-        programs(rt, &section, &cipher, target, &received, 2, third, shown)
+        programs(
+            rt,
+            &section,
+            &cipher,
+            target,
+            received.shared(),
+            2,
+            third,
+            shown,
+        )
     }
 
     // Takes a frame that is not refused.
     fn takes(
         state: Receiving,
-        received: &mut Received<'_>,
+        received: &mut Received<'_, '_>,
         first: u32,
         bytes: &[u8],
     ) -> Result<Receiving, Fail> {
@@ -830,14 +875,10 @@ mod tests {
     ) -> Result<(), Fail> {
         assert!(rt; long <= 64);
         let was = arrivals.has(0);
-        let mut body = sealed.body;
-        let mut received = Received {
-            body: &mut body[..long],
-            arrivals,
-        };
-        let answer = open(&sealed.listing, number, cipher, &mut received);
+        let body = &sealed.body[..long];
+        let answer = open(&sealed.listing, number, cipher, body, arrivals);
         assert_eq!(rt; answer.err().map(Told::from), Some(wanted));
-        assert_eq!(rt; received.arrivals.has(0), was);
+        assert_eq!(rt; arrivals.has(0), was);
         Ok(())
     }
 
@@ -850,11 +891,11 @@ mod tests {
         let sealed = sealing(&gost, GOST, FEEDBACK, 1, 43)?;
         let mut body = [0; 43];
         let mut arrivals = ArrivalRecord::new(6)?;
+        let state = open(&sealed.listing, 1, &gost, &body, &mut arrivals)?;
         let mut received = Received {
             body: &mut body,
             arrivals: &mut arrivals,
         };
-        let state = open(&sealed.listing, 1, &gost, &mut received)?;
         let _ = takes(state, &mut received, 0, &sealed.body[..43])?;
         let [none, past] = [Told::Refused(5, 0, 2), Told::Refused(5, 2, 2)];
         unopened(&rt, &sealed, 0, &gost, 43, &mut arrivals, none)?;
@@ -870,11 +911,7 @@ mod tests {
         assert_eq!(rt; ArrivalRecord::new(2048)?.blocks(), 2048);
         assert_eq!(rt; ArrivalRecord::new(2049).is_err(), true);
         assert_eq!(rt; arrivals.first_missing(0, 6), None);
-        let mut received = Received {
-            body: &mut body,
-            arrivals: &mut arrivals,
-        };
-        let _ = open(&sealed.listing, 1, &gost, &mut received)?;
+        let _ = open(&sealed.listing, 1, &gost, &body, &mut arrivals)?;
         for k in 0..6u32 {
             assert_eq!(rt; arrivals.first_missing(k, 6), Some(k));
         }
@@ -892,14 +929,13 @@ mod tests {
         room: usize,
     ) -> Result<(), Fail> {
         assert!(rt; long <= 64 && room <= 64);
-        let mut body = IMAGE;
-        let mut arrivals = ArrivalRecord::new(blocks)?;
-        let received = Received {
-            body: &mut body[..long],
-            arrivals: &mut arrivals,
+        let arrivals = ArrivalRecord::new(blocks)?;
+        let received = ReceivedRef {
+            body: &IMAGE[..long],
+            arrivals: &arrivals,
         };
         let mut out = [7; 64];
-        let answer = give(section, cipher, &received, 9, &mut out[..room]);
+        let answer = give(section, cipher, received, 9, &mut out[..room]);
         assert_eq!(rt; answer.err().map(Told::from), Some(no(9, 0)));
         every(rt, out, 7)
     }
@@ -914,16 +950,15 @@ mod tests {
         room: usize,
     ) -> Result<(), Fail> {
         assert!(rt; long <= 64 && room <= 64);
-        let mut body = IMAGE;
-        let mut arrivals = ArrivalRecord::new(blocks)?;
-        let received = Received {
-            body: &mut body[..long],
-            arrivals: &mut arrivals,
+        let arrivals = ArrivalRecord::new(blocks)?;
+        let received = ReceivedRef {
+            body: &IMAGE[..long],
+            arrivals: &arrivals,
         };
         let mut page = [7; 64];
         let mut memory = [9; 16];
         let mut ram = Ram::new(&mut memory, 16, 1, 255, &OPEN)?;
-        let answer = program(section, cipher, &mut ram, &received, 9, &mut page[..room]);
+        let answer = program(section, cipher, &mut ram, received, 9, &mut page[..room]);
         assert_eq!(rt; answer.err().map(Told::from), Some(no(9, 0)));
         every(rt, memory, 9)?;
         every(rt, page, 7)
@@ -973,13 +1008,12 @@ mod tests {
         blocks: usize,
     ) -> Result<Receiving, Fail> {
         assert!(rt; long <= 64);
-        let mut body = IMAGE;
-        let mut arrivals = ArrivalRecord::new(blocks)?;
-        let received = Received {
-            body: &mut body[..long],
-            arrivals: &mut arrivals,
+        let arrivals = ArrivalRecord::new(blocks)?;
+        let received = ReceivedRef {
+            body: &IMAGE[..long],
+            arrivals: &arrivals,
         };
-        given_back(rt, state.close(&received))
+        given_back(rt, state.close(received))
     }
 
     #[test]
@@ -989,13 +1023,8 @@ mod tests {
         let keys = [[0; 16]; 10];
         let kuznyechik = Kuznyechik::new(&keys);
         let sealed = sealing(&gost, GOST, FEEDBACK, 1, 43)?;
-        let mut body = [0; 43];
         let mut arrivals = ArrivalRecord::new(6)?;
-        let mut received = Received {
-            body: &mut body,
-            arrivals: &mut arrivals,
-        };
-        let mut state = open(&sealed.listing, 1, &gost, &mut received)?;
+        let mut state = open(&sealed.listing, 1, &gost, &sealed.body[..43], &mut arrivals)?;
         let section = state.section();
         for room in [0usize, 7, 9, 16] {
             ungiven(&rt, &section, &gost, 43, 6, room)?;
@@ -1063,13 +1092,14 @@ mod tests {
     fn closed<C: BlockCipher>(sealed: &Sealed, cipher: &C) -> Result<Closed, Fail> {
         let mut body = [0; 43];
         let mut arrivals = ArrivalRecord::new(6)?;
+        let state = open(&sealed.listing, 1, cipher, &body, &mut arrivals)?;
         let mut received = Received {
             body: &mut body,
             arrivals: &mut arrivals,
         };
-        let state = open(&sealed.listing, 1, cipher, &mut received)?;
         let state = takes(state, &mut received, 0, &sealed.body[..43])?;
-        state.close(&received).map_err(|_| Fail::new("not closed"))
+        let closed = state.close(received.shared());
+        closed.map_err(|_| Fail::new("not closed"))
     }
 
     #[test]
@@ -1149,21 +1179,19 @@ mod tests {
         number: u32,
         cipher: &'a C,
         long: usize,
-        mut arrivals: ArrivalRecord,
+        arrivals: &mut ArrivalRecord,
         room: usize,
         wanted: Told,
     ) -> Result<(), Fail>
         requires { (long ≤ 64) × (room ≤ 5) }
     {
-        // A copy: what the calls borrow has another lifetime than what the bench borrows.
-        let sent = sealed.body;
         let was = arrivals.has(0);
         let mut memory = [9; 64];
         let mut ram = Ram::new(&mut memory, 16, 4, 255, &OPEN)?;
         let mut body = [7; 64];
         let mut page = [7; 16];
         let calls = [
-            frame(0, &sent[..16]),
+            frame(0, &sealed.body[..16]),
             erase_page(0),
             program_page(0),
             Call::Close,
@@ -1175,7 +1203,7 @@ mod tests {
             target: &mut ram,
             received: Received {
                 body: &mut body[..long],
-                arrivals: &mut arrivals,
+                arrivals,
             },
             page: &mut page,
         };
@@ -1204,21 +1232,21 @@ mod tests {
         let sealed = sealing(&gost, GOST, FEEDBACK, 1, 43)?;
         let mut body = [0; 43];
         let mut arrivals = ArrivalRecord::new(6)?;
+        let state = open(&sealed.listing, 1, &gost, &body, &mut arrivals)?;
         let mut received = Received {
             body: &mut body,
             arrivals: &mut arrivals,
         };
-        let state = open(&sealed.listing, 1, &gost, &mut received)?;
         let _ = takes(state, &mut received, 0, &sealed.body[..8])?;
-        unrun(&rt, &sealed, 1, &gost, 43, arrivals, 3, no(9, 0))?;
-        unrun(&rt, &sealed, 1, &gost, 43, arrivals, 5, no(9, 0))?;
-        unrun(&rt, &sealed, 2, &gost, 43, arrivals, 0, no(9, 0))?;
+        unrun(&rt, &sealed, 1, &gost, 43, &mut arrivals, 3, no(9, 0))?;
+        unrun(&rt, &sealed, 1, &gost, 43, &mut arrivals, 5, no(9, 0))?;
+        unrun(&rt, &sealed, 2, &gost, 43, &mut arrivals, 0, no(9, 0))?;
         let past = Told::Refused(5, 2, 2);
-        unrun(&rt, &sealed, 2, &gost, 42, arrivals, 4, past)?;
-        unrun(&rt, &sealed, 1, &gost, 42, arrivals, 4, no(9, 0))?;
-        unrun(&rt, &sealed, 1, &kuznyechik, 43, arrivals, 4, no(9, 0))?;
-        let other = ArrivalRecord::new(5)?;
-        unrun(&rt, &sealed, 1, &gost, 43, other, 4, no(9, 0))
+        unrun(&rt, &sealed, 2, &gost, 42, &mut arrivals, 4, past)?;
+        unrun(&rt, &sealed, 1, &gost, 42, &mut arrivals, 4, no(9, 0))?;
+        unrun(&rt, &sealed, 1, &kuznyechik, 43, &mut arrivals, 4, no(9, 0))?;
+        let mut other = ArrivalRecord::new(5)?;
+        unrun(&rt, &sealed, 1, &gost, 43, &mut other, 4, no(9, 0))
     }
 
     // A page buffer of another length than the target's pages, and an image off the target.

@@ -32,7 +32,7 @@ use Rattle.traces.specs.Buffers.{Buffers, buffers, after}
 use Rattle.traces.specs.Runs.{stands_by}
 use Rattle.downloads.specs.declared.received.Received.{Received}
 use Rattle.traces.specs.declared.call.Bench.{Bench}
-use Rattle.downloads.specs.Received.{body_in, marks_of, copies_of}
+use Rattle.downloads.specs.Received.{held_in, body_in, marks_of, copies_of}
 use Rattle.traces.specs.Bench.{Serves, Performs, given_from, setting_on, stands_on, buffers_on}
 use Rattle.traces.proofs.Outcomes.{answer_not}
 use Rattle.traces.proofs.Framing.{Fitting}
@@ -155,7 +155,7 @@ module _ {C T : Type 0} (map : C → BlockMap) (state : T → TargetState) (d : 
       a ≡ cond closed not_built (answered (framed f bytes) done) →
       body_in r ≡ cond closed body (unless (framed f bytes) body (body_after (block_of d) f bytes body)) →
       marks_of r ≡ cond closed marks (unless (framed f bytes) marks (marks_after (block_of d) f bytes marks)) →
-      copies_of (block_of d) r ≡ cond closed copies (unless (framed f bytes) copies (with_frame (block_of d) copies f bytes)) →
+      copies_of (block_of d) (held_in r) ≡ cond closed copies (unless (framed f bytes) copies (with_frame (block_of d) copies f bytes)) →
       Performs w (at closed) (stands_by d (body_in r) (marks_of r) closed' t) held (buffers (body_in r) (marks_of r) page) (frame f bytes) a
   performs_frame closed closed' f bytes a r o ea eb em ec =
       let p = performs_frame_by closed f bytes a (body_in r) (marks_of r) ea eb em ec in
@@ -197,9 +197,9 @@ module _ {C T : Type 0} (map : C → BlockMap) (state : T → TargetState) (d : 
     fits : Fitting w.section copies
     fits = copies_fit w.section body marks store bytes
 
-    pub performs_give : (closed : Bool) (i : ℕ) (a : Answer) → a ≡ given_from w.cipher (meaning_of sec) bench.received i → Performs w (at closed) (at closed) held held (give i) a
+    pub performs_give : (closed : Bool) (i : ℕ) (a : Answer) → a ≡ given_from w.cipher (meaning_of sec) (held_in bench.received) i → Performs w (at closed) (at closed) held held (give i) a
     performs_give closed i a ea = record {
-      answer = ea ∙ (ap (λ (x : Described). given_from w.cipher x bench.received i) same ∙ sym (answer_give w (at closed) (length body) (length marks) store t fit fits i (blank (block_of w.section)) (length-replicate (block_of w.section) 0)));
+      answer = ea ∙ (ap (λ (x : Described). given_from w.cipher x (held_in bench.received) i) same ∙ sym (answer_give w (at closed) (length body) (length marks) store t fit fits i (blank (block_of w.section)) (length-replicate (block_of w.section) 0)));
       stands = sym (step_give w (at closed) i);
       holds = refl;
     }
@@ -215,8 +215,8 @@ module _ {C T : Type 0} (map : C → BlockMap) (state : T → TargetState) (d : 
 
     pub performs_program : (closed : Bool) (j : ℕ) (a : Answer) (t' : TargetState) (page' : List ℕ) →
         a ≡ answered (paged (meaning_of sec) j) done →
-        t' ≡ target_programmed w.cipher (meaning_of sec) (length body) (length marks) t (copies_of (block_of (meaning_of sec)) bench.received) (length page) j →
-        page' ≡ buffer_after w.cipher (meaning_of sec) (length body) (length marks) t (copies_of (block_of (meaning_of sec)) bench.received) j page →
+        t' ≡ target_programmed w.cipher (meaning_of sec) (length body) (length marks) t (copies_of (block_of (meaning_of sec)) (held_in bench.received)) (length page) j →
+        page' ≡ buffer_after w.cipher (meaning_of sec) (length body) (length marks) t (copies_of (block_of (meaning_of sec)) (held_in bench.received)) j page →
         Performs w (at closed) (stands_by d body marks closed t') held (buffers body marks page') (program j) a
     performs_program closed j a t' page' ea et ep =
         let c = w.cipher in

@@ -11,7 +11,7 @@ use Rattle.downloads.specs.Copies.{Copies}
 use Rattle.downloads.specs.Frames.{block_of, blocks_of, with_frame, body_after, marks_after}
 use Rattle.downloads.specs.declared.received.Received.{Received}
 use Rattle.traces.specs.declared.call.Bench.{Bench}
-use Rattle.downloads.specs.Received.{body_in, marks_of, copies_of, stores, SameLoans, frame_said}
+use Rattle.downloads.specs.Received.{Held, held_in, body_in, marks_of, copies_of, stores, SameLoans, frame_said}
 use Rattle.traces.specs.Traces.{Setting, Call, Answer, Standing, step, answer_to, run, answers_of}
 use Rattle.traces.specs.Answers.{given_by}
 use Rattle.traces.specs.Buffers.{Buffers, buffers, after, buffers_after}
@@ -20,19 +20,19 @@ use Rattle.traces.specs.Runs.{setting, stands_by, Runs}
 -- ---- what has been received
 
 -- what giving a block is answered
-abbrev pub given_from : BlockMap → Described → Received → ℕ → Answer
-given_from c s r i = given_by c s (length (body_in r)) (length (marks_of r)) (copies_of (block_of s) r) i
+abbrev pub given_from : BlockMap → Described → Held → ℕ → Answer
+given_from c s h i = given_by c s (length h.body) (length h.marks) (copies_of (block_of s) h) i
 
 -- what a frame leaves of it, unless the download is closed
 abbrev pub body_framed : Described → Bool → Received → ℕ → List ℕ → List ℕ
-body_framed s closed r f bytes = cond closed (body_in r) (unless (frame_said s r f bytes) (body_in r) (body_after (block_of s) f bytes (body_in r)))
+body_framed s closed r f bytes = cond closed (body_in r) (unless (frame_said s (held_in r) f bytes) (body_in r) (body_after (block_of s) f bytes (body_in r)))
 
 abbrev pub marks_framed : Described → Bool → Received → ℕ → List ℕ → List Arrival
-marks_framed s closed r f bytes = cond closed (marks_of r) (unless (frame_said s r f bytes) (marks_of r) (marks_after (block_of s) f bytes (marks_of r)))
+marks_framed s closed r f bytes = cond closed (marks_of r) (unless (frame_said s (held_in r) f bytes) (marks_of r) (marks_after (block_of s) f bytes (marks_of r)))
 
 abbrev pub copies_framed : Described → Bool → Received → ℕ → List ℕ → Copies
 copies_framed s closed r f bytes =
-    cond closed (copies_of (block_of s) r) (unless (frame_said s r f bytes) (copies_of (block_of s) r) (with_frame (block_of s) (copies_of (block_of s) r) f bytes))
+    cond closed (copies_of (block_of s) (held_in r)) (unless (frame_said s (held_in r) f bytes) (copies_of (block_of s) (held_in r)) (with_frame (block_of s) (copies_of (block_of s) (held_in r)) f bytes))
 
 -- ---- a bench, with the meaning of its cipher and of its target
 
@@ -63,7 +63,7 @@ cleared_on s b = buffers (body_in b.received) (replicate (blocks_of s) Missing) 
 -- the cipher, the body and the record are a section's
 pub record Serves {C T : Type 0} (map : C → BlockMap) (s : Described) (b : Bench C T) : Type 0 where
   pub sized : (map b.cipher.now).size ≡ block_of s
-  pub stored : stores s b.received ≡ true
+  pub stored : stores s (held_in b.received) ≡ true
 
 -- ---- calls that are made at s on buffers b, and lead to u and v
 

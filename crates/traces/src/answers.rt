@@ -6,7 +6,7 @@ ghost use Rattle.gost.specs.Keyed.{rows_in, words_in};
 ghost use Rattle.sections.specs.Meaning.{meaning_of};
 ghost use Rattle.downloads.specs.Frames.{block_of};
 ghost use Rattle.downloads.specs.Verdicts.{verify_answer, read_after};
-ghost use Rattle.downloads.specs.Received.{body_in, marks_of, copies_of, frame_said, close_said, SameLoans};
+ghost use Rattle.downloads.specs.Received.{body_in, marks_of, copies_of, held_in, held_by, frame_said, close_said, SameLoans};
 ghost use Rattle.traces.specs.Traces.{done, not_built, refused, answered, is_refused};
 ghost use Rattle.traces.specs.Answers.{verdict_as};
 ghost use Rattle.traces.specs.Meaning.{answer_of, section_of, closed_in, stops_at};
@@ -15,7 +15,7 @@ ghost use Rattle.traces.specs.Bench.{given_from, body_framed, marks_framed, copi
 use crate::call::{Answer, Phase, Until};
 use blocks::BlockCipher;
 use downloads::giving::give;
-use downloads::received::Received;
+use downloads::received::{Received, ReceivedRef};
 use gost::cipher::Gost;
 use refusals::Refusal;
 use sections::section::Section;
@@ -79,13 +79,18 @@ impl Moved {
 }
 
 /// A frame, if the download is receiving.
-pub(crate) fn on_frame(phase: Phase, received: &mut Received<'_>, first: u32, bytes: &[u8]) -> Moved
-    ensures answer { answer_of result.answer ≡ (if closed_in phase then not_built else answered (frame_said (section_of phase) received.old first bytes.now) done) }
+pub(crate) fn on_frame(
+    phase: Phase,
+    received: &mut Received<'_, '_>,
+    first: u32,
+    bytes: &[u8],
+) -> Moved
+    ensures answer { answer_of result.answer ≡ (if closed_in phase then not_built else answered (frame_said (section_of phase) (held_in received.old) first bytes.now) done) }
     ensures phase { (section_of result.phase ≡ section_of phase) × (closed_in result.phase ≡ closed_in phase) }
     ensures same { SameLoans received.old received.new }
     ensures body { body_in received.new ≡ body_framed (section_of phase) (closed_in phase) received.old first bytes.now }
     ensures arrivals { marks_of received.new ≡ marks_framed (section_of phase) (closed_in phase) received.old first bytes.now }
-    ensures copies { copies_of (block_of (section_of phase)) received.new ≡ copies_framed (section_of phase) (closed_in phase) received.old first bytes.now }
+    ensures copies { copies_of (block_of (section_of phase)) (held_in received.new) ≡ copies_framed (section_of phase) (closed_in phase) received.old first bytes.now }
 {
     match phase {
         Phase::Closed(state) => Moved::new(Phase::Closed(state), Answer::NotBuilt),
@@ -99,10 +104,10 @@ pub(crate) fn on_frame(phase: Phase, received: &mut Received<'_>, first: u32, by
 }
 
 /// Closing, if the download is receiving.
-pub(crate) fn on_close(phase: Phase, received: &Received<'_>) -> Moved
-    ensures answer { answer_of result.answer ≡ (if closed_in phase then not_built else answered (close_said (section_of phase) received.now) done) }
+pub(crate) fn on_close(phase: Phase, received: ReceivedRef<'_, '_>) -> Moved
+    ensures answer { answer_of result.answer ≡ (if closed_in phase then not_built else answered (close_said (section_of phase) (held_by received.entry)) done) }
     ensures section { section_of result.phase ≡ section_of phase }
-    ensures closed { closed_in result.phase ≡ (if closed_in phase then true else unless (close_said (section_of phase) received.now) false true) }
+    ensures closed { closed_in result.phase ≡ (if closed_in phase then true else unless (close_said (section_of phase) (held_by received.entry)) false true) }
 {
     match phase {
         Phase::Closed(state) => Moved::new(Phase::Closed(state), Answer::NotBuilt),
@@ -153,10 +158,10 @@ pub(crate) fn on_verify<T: Target>(
 pub(crate) fn on_give<C: BlockCipher>(
     section: &Section,
     cipher: &C,
-    received: &Received<'_>,
+    received: ReceivedRef<'_, '_>,
     i: u32,
 ) -> Answer
-    ensures { answer_of result ≡ given_from (C.BlockCipher.map cipher.now) (meaning_of section.now) received.now i }
+    ensures { answer_of result ≡ given_from (C.BlockCipher.map cipher.now) (meaning_of section.now) (held_by received.entry) i }
 {
     let mut block = [0; 16];
     let n = section.cipher.block_length();

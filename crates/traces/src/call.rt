@@ -42,14 +42,15 @@ pub enum Phase {
 }
 
 /// What a trace is made with, the cipher with its key and the cipher with the tag key, and what is lent
-/// to its calls: the target, what has been received, and a page buffer.
+/// to its calls: the target, what has been received, and a page buffer. Each is lent for a time of its
+/// own, but for the two ciphers, which share one.
 #[derive(Drop)]
-pub struct Bench<'a, C, T> {
-    pub cipher: &'a C,
-    pub tag: Gost<'a>,
-    pub target: &'a mut T,
-    pub received: Received<'a>,
-    pub page: &'a mut [u8],
+pub struct Bench<'k, 't, 'b, 'r, 'p, C, T> {
+    pub cipher: &'k C,
+    pub tag: Gost<'k>,
+    pub target: &'t mut T,
+    pub received: Received<'b, 'r>,
+    pub page: &'p mut [u8],
 }
 
 /// Where a trace ends.

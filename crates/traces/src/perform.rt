@@ -15,7 +15,7 @@ use downloads::received::Received;
 use targets::Target;
 
 /// That a body holds bytes. Nothing is computed that is used.
-fn bring_bytes(received: &Received<'_>)
+fn bring_bytes(received: &Received<'_, '_>)
     ensures { Bytes (body_in received.now) }
 {
     let _count = byte_count(received.body);
@@ -24,7 +24,7 @@ fn bring_bytes(received: &Received<'_>)
 /// Makes one call.
 pub(crate) fn perform<C: BlockCipher, T: Target>(
     phase: Phase,
-    bench: &mut Bench<'_, C, T>,
+    bench: &mut Bench<'_, '_, '_, '_, '_, C, T>,
     call: Call<'_>,
 ) -> Moved
     requires { Serves C.BlockCipher.map (section_of phase) bench.old }
@@ -42,7 +42,7 @@ pub(crate) fn perform<C: BlockCipher, T: Target>(
             on_frame(phase, &mut bench.received, first, bytes)
         }
         Call::Give { block } => {
-            let answer = on_give(&section, bench.cipher, &bench.received, block);
+            let answer = on_give(&section, bench.cipher, bench.received.shared(), block);
             Moved { phase, answer }
         }
         Call::Erase { page: erased } => {
@@ -54,14 +54,14 @@ pub(crate) fn perform<C: BlockCipher, T: Target>(
                 &section,
                 bench.cipher,
                 bench.target,
-                &bench.received,
+                bench.received.shared(),
                 j,
                 bench.page,
             );
             let answer = said.into();
             Moved { phase, answer }
         }
-        Call::Close => on_close(phase, &bench.received),
+        Call::Close => on_close(phase, bench.received.shared()),
         Call::Reopen => on_reopen(phase),
         Call::Verify => on_verify(phase, bench.target, bench.tag, bench.page),
     }

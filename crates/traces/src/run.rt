@@ -16,7 +16,6 @@ ghost use Rattle.traces.specs.Bench.{SameBench, Serves, PerformsAllOn, RunsOn, b
 use crate::call::{Answer, Bench, Call, Phase, Progress, Until};
 use crate::perform::perform;
 use blocks::BlockCipher;
-use downloads::frames::open;
 use downloads::state::Receiving;
 use refusals::{Layer, Reason, Refusal};
 use sections::listing::Listing;
@@ -26,7 +25,7 @@ use targets::Target;
 /// refused.
 fn run_calls<C: BlockCipher, T: Target>(
     phase: Phase,
-    bench: &mut Bench<'_, C, T>,
+    bench: &mut Bench<'_, '_, '_, '_, '_, C, T>,
     calls: &[Call<'_>],
     answers: &mut [Answer],
     until: Until,
@@ -68,7 +67,7 @@ fn bring_mode(state: &Receiving)
 pub fn run<C: BlockCipher, T: Target>(
     listing: &Listing,
     number: u32,
-    bench: &mut Bench<'_, C, T>,
+    bench: &mut Bench<'_, '_, '_, '_, '_, C, T>,
     calls: &[Call<'_>],
     answers: &mut [Answer],
     until: Until,
@@ -84,7 +83,8 @@ pub fn run<C: BlockCipher, T: Target>(
     if answers.len() != calls.len() {
         return Err(Refusal::new(Reason::WrongBuffer, 0, Layer::Download));
     }
-    let state = open(listing, number, bench.cipher, &mut bench.received)?;
+    let cipher = bench.cipher;
+    let state = bench.received.open(listing, number, cipher)?;
     bring_mode(&state);
     let phase = Phase::Receiving(state);
     Ok(run_calls(phase, bench, calls, answers, until))
