@@ -8,7 +8,7 @@ use std::{fmt, io};
 
 /// Why no file is made.
 #[derive(Drop)]
-pub(crate) enum Fault {
+pub(crate) enum Fault<'a> {
     /// A line of the list is not as it has to be.
     Line {
         number: usize,
@@ -17,7 +17,7 @@ pub(crate) enum Fault {
     /// The image that a line of the list names cannot be read.
     Image {
         number: usize,
-        name: String,
+        name: &'a str,
         why: io::Error,
     },
     /// The list is no text.
@@ -31,8 +31,8 @@ pub(crate) enum Fault {
     Failed(anyhow::Error),
 }
 
-impl From<Refusal> for Fault {
-    fn from(refusal: Refusal) -> Fault {
+impl<'a> From<Refusal> for Fault<'a> {
+    fn from(refusal: Refusal) -> Fault<'a> {
         Fault::Refused {
             refusal,
             line: None,
@@ -40,26 +40,26 @@ impl From<Refusal> for Fault {
     }
 }
 
-impl From<io::Error> for Fault {
-    fn from(why: io::Error) -> Fault {
+impl<'a> From<io::Error> for Fault<'a> {
+    fn from(why: io::Error) -> Fault<'a> {
         Fault::Failed(anyhow::Error::from(why))
     }
 }
 
-impl From<AllocError> for Fault {
-    fn from(why: AllocError) -> Fault {
+impl<'a> From<AllocError> for Fault<'a> {
+    fn from(why: AllocError) -> Fault<'a> {
         Fault::Failed(anyhow::Error::from(why))
     }
 }
 
-impl<T: Drop> From<AllocFailed<T>> for Fault {
-    fn from(why: AllocFailed<T>) -> Fault {
+impl<'a, T: Drop> From<AllocFailed<T>> for Fault<'a> {
+    fn from(why: AllocFailed<T>) -> Fault<'a> {
         Fault::from(AllocError::from(why))
     }
 }
 
-/// What is said of it. A refusal has two lines: it itself, and what it is about and means.
-impl fmt::Display for Fault {
+/// What is said of it. Of a refusal this is what it is about and means; it itself is a line before.
+impl<'a> fmt::Display for Fault<'a> {
     fn fmt<W: fmt::Write>(&self, f: &mut fmt::Formatter<W>) -> fmt::Result {
         match self {
             Fault::Line { number, why } => write!(f, "sections.txt line {number}: {why}"),
@@ -70,10 +70,7 @@ impl fmt::Display for Fault {
                 )
             }
             Fault::NoText => write!(f, "sections.txt is not a text in UTF-8"),
-            Fault::Refused { refusal, line } => {
-                write!(f, "{refusal}\n")?;
-                write_meaning(f, *refusal, *line)
-            }
+            Fault::Refused { refusal, line } => write_meaning(f, *refusal, *line),
             Fault::Failed(why) => write!(f, "{why}"),
         }
     }

@@ -44,7 +44,7 @@ fn line_of(list: &str, section: u32) -> Option<usize> {
 }
 
 /// Reads a line of the list and its image.
-fn read_section(rt: &HostRuntime, line: &str, number: usize) -> Result<Planned, Fault> {
+fn read_section<'a>(rt: &HostRuntime, line: &'a str, number: usize) -> Result<Planned, Fault<'a>> {
     let words: Vec<&str> = line.split_whitespace().collect(rt.alloc())?;
     let line = read_words(words.as_slice()).map_err(|why| Fault::Line { number, why })?;
     match fs::read(rt, line.name) {
@@ -54,14 +54,14 @@ fn read_section(rt: &HostRuntime, line: &str, number: usize) -> Result<Planned, 
         }),
         Err(why) => Err(Fault::Image {
             number,
-            name: String::from_str(rt.alloc(), line.name)?,
+            name: line.name,
             why,
         }),
     }
 }
 
 /// Reads the list of sections.
-fn read_sections(rt: &HostRuntime, list: &str) -> Result<Vec<Planned>, Fault> {
+fn read_sections<'a>(rt: &HostRuntime, list: &'a str) -> Result<Vec<Planned>, Fault<'a>> {
     let mut sections = Vec::new(rt.alloc());
     for (i, line) in list.lines().enumerate() {
         if is_section(line) {
@@ -88,7 +88,7 @@ fn say_section(rt: &HostRuntime, number: usize, page_length: u32, s: &Section) -
 }
 
 /// Writes the file, lists what was written, prints its sections, and puts it in its place.
-fn write_file(rt: &HostRuntime, target: &Description, file: &[u8]) -> Result<(), Fault> {
+fn write_file<'a>(rt: &HostRuntime, target: &Description, file: &[u8]) -> Result<(), Fault<'a>> {
     fs::write(rt, NEW, file)?;
     let back = fs::read(rt, NEW)?;
     if back.as_slice() != file {
@@ -106,14 +106,28 @@ fn write_file(rt: &HostRuntime, target: &Description, file: &[u8]) -> Result<(),
     Ok(())
 }
 
-/// Makes the file.
-fn make(rt: &HostRuntime) -> Result<(), Fault> {
+/// What the folder holds beside the images.
+#[derive(Drop)]
+struct Inputs {
+    target: Description,
+    keys: Vec<u8>,
+    list: String,
+}
+
+/// Reads the folder, but for the images.
+fn read_inputs<'a>(rt: &HostRuntime) -> Result<Inputs, Fault<'a>> {
     let target = describe(read_or_empty(rt, "target.tdf")?.as_slice())?;
     let keys = read_or_empty(rt, "keys.bin")?;
     let list = String::from_utf8(read_or_empty(rt, "sections.txt")?).map_err(|_| Fault::NoText)?;
+    Ok(Inputs { target, keys, list })
+}
+
+/// Makes the file.
+fn make<'a>(rt: &HostRuntime, inputs: &'a Inputs) -> Result<(), Fault<'a>> {
+    let Inputs { target, keys, list } = inputs;
     let sections = read_sections(rt, list.as_str())?;
-    match pack(rt.alloc(), &target, keys.as_slice(), sections.as_slice()) {
-        Ok(file) => write_file(rt, &target, file.as_slice()),
+    match pack(rt.alloc(), target, keys.as_slice(), sections.as_slice()) {
+        Ok(file) => write_file(rt, target, file.as_slice()),
         Err(PackFault::Refused(refusal)) => Err(Fault::Refused {
             refusal,
             line: line_of(list.as_str(), refusal.place),
@@ -122,13 +136,24 @@ fn make(rt: &HostRuntime) -> Result<(), Fault> {
     }
 }
 
+/// Says why no file is made.
+fn say_fault(rt: &HostRuntime, fault: Fault<'_>) -> anyhow::Result<ExitCode> {
+    match fault {
+        Fault::Failed(why) => return Err(why),
+        Fault::Refused { refusal, .. } => println!(rt; "{refusal}")?,
+        _ => {}
+    }
+    println!(rt; "{fault}")?;
+    Ok(ExitCode::FAILURE)
+}
+
 fn main(rt: HostRuntime) -> anyhow::Result<ExitCode> {
-    match make(&rt) {
+    let inputs = match read_inputs(&rt) {
+        Ok(inputs) => inputs,
+        Err(fault) => return say_fault(&rt, fault),
+    };
+    match make(&rt, &inputs) {
         Ok(()) => Ok(ExitCode::SUCCESS),
-        Err(Fault::Failed(why)) => Err(why),
-        Err(fault) => {
-            println!(rt; "{fault}")?;
-            Ok(ExitCode::FAILURE)
-        }
+        Err(fault) => say_fault(&rt, fault),
     }
 }
