@@ -10,8 +10,8 @@ use traces::call::Call;
 
 /// A step of a script, and the bytes of its frame; none where it has no frame.
 #[derive(Drop)]
-pub(crate) struct CutStep {
-    step: Step,
+pub(crate) struct CutStep<'a> {
+    step: &'a Step,
     bytes: Vec<u8>,
 }
 
@@ -42,17 +42,16 @@ fn cut(heap: Global, body: &[u8], n: usize, frame: FrameLine, line: u32) -> Resu
 }
 
 /// The steps, with their frames cut from a body.
-pub(crate) fn cut_frames(
+pub(crate) fn cut_frames<'a>(
     heap: Global,
     body: &[u8],
     n: usize,
-    steps: &[Step],
-) -> Result<Vec<CutStep>, Fault>
+    steps: &'a [Step],
+) -> Result<Vec<CutStep<'a>>, Fault>
     requires { n ≤ 16 }
 {
-    let mut cuts = Vec::new(heap);
+    let mut cuts = Vec::with_capacity(heap, steps.len())?;
     for step in steps {
-        let step = *step;
         let bytes = match step.order.frame() {
             Some(frame) => cut(heap, body, n, frame, step.line)?,
             None => Vec::new(heap),
@@ -80,7 +79,7 @@ fn call_of<'a>(order: Order, bytes: &'a [u8]) -> Option<Call<'a>> {
 }
 
 /// The calls of the steps, in order. A lost frame makes none.
-pub(crate) fn calls_of<'a>(heap: Global, steps: &'a [CutStep]) -> Result<Vec<Call<'a>>, Fault> {
+pub(crate) fn calls_of<'a>(heap: Global, steps: &'a [CutStep<'_>]) -> Result<Vec<Call<'a>>, Fault> {
     let mut calls = Vec::new(heap);
     for CutStep { step, bytes } in steps {
         if let Some(call) = call_of(step.order, bytes.as_slice()) {

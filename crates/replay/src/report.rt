@@ -7,7 +7,7 @@ use crate::replaying::{Outcome, Setting};
 use crate::said::Told;
 use scripts::order::{Order, Step};
 use sections::section::Section;
-use std::io;
+use std::{fmt, io};
 use traces::call::Answer;
 
 /// Marks in a row of a map, and in a group of a row.
@@ -94,17 +94,43 @@ fn say_places<M: Mark>(
     print!(rt; "{heading}:")?;
     let runs = places.as_slice().chunk_by(|a, b| a.saturating_add(1) == *b);
     for (i, run) in runs.enumerate() {
-        if i > 0 {
-            print!(rt; ",")?;
-        }
         match run {
+            [first, .., last] if i > 0 => print!(rt; ", {first} to {last}")?,
             [first, .., last] => print!(rt; " {first} to {last}")?,
+            [place] if i > 0 => print!(rt; ", {place}")?,
             [place] => print!(rt; " {place}")?,
             [] => {}
         }
     }
     println!(rt; "")?;
     Ok(())
+}
+
+/// How often each mark stands in a map.
+#[derive(Clone, Copy)]
+struct Counts<'a, M> {
+    marks: &'a [M],
+    legends: &'a [Legend<M>],
+}
+
+/// Written as one, so that the line that it stands in is printed as one.
+impl<'a, M: Mark> fmt::Display for Counts<'a, M> {
+    fn fmt<W: fmt::Write>(&self, f: &mut fmt::Formatter<W>) -> fmt::Result {
+        for (i, legend) in self.legends.iter().enumerate() {
+            if i > 0 {
+                write!(f, ",")?;
+            }
+            let count = self
+                .marks
+                .iter()
+                .filter(|mark| **mark == legend.mark)
+                .count();
+            let word = legend.word;
+            let letter = legend.mark.letter();
+            write!(f, " {count} {word} ({letter})")?;
+        }
+        Ok(())
+    }
 }
 
 /// Prints how often each mark stands in a map, the map, and the places that are listed.
@@ -114,17 +140,8 @@ fn say_marks<M: Mark>(
     marks: &[M],
     legends: &[Legend<M>],
 ) -> anyhow::Result<()> {
-    print!(rt; "{name}:")?;
-    for (i, legend) in legends.iter().enumerate() {
-        if i > 0 {
-            print!(rt; ",")?;
-        }
-        let count = marks.iter().filter(|mark| **mark == legend.mark).count();
-        let word = legend.word;
-        let letter = legend.mark.letter();
-        print!(rt; " {count} {word} ({letter})")?;
-    }
-    println!(rt; "")?;
+    let counts = Counts { marks, legends };
+    println!(rt; "{name}:{counts}")?;
     say_map(rt, marks)?;
     for legend in legends {
         if let Some(heading) = legend.places {
