@@ -72,6 +72,10 @@ pub(crate) fn mix(block: &mut [u8])
     requires { length block.old ≡ 16 }
     ensures { block.new ≡ L block.old }
 {
+    // There is no other length. With it known here, the turns compile to moves of fixed size.
+    if block.len() != 16 {
+        return;
+    }
     for _i in 0..16usize {
         shift(block);
     }
@@ -83,6 +87,10 @@ fn unmix(block: &mut [u8])
     requires { length block.old ≡ 16 }
     ensures { block.new ≡ L⁻¹ block.old }
 {
+    // There is no other length. With it known here, the turns compile to moves of fixed size.
+    if block.len() != 16 {
+        return;
+    }
     for _i in 0..16usize {
         unshift(block);
     }
