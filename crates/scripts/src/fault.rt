@@ -1,5 +1,9 @@
 //! Why a script cannot be used.
 
+ghost use Rattle.std.specs.Prelude.{◌≡◌, Some};
+ghost use Rattle.scripts.specs.Faults.{fault_text};
+ghost use Rattle.scripts.specs.declared.fault.ScriptFault.TheVariants.{Memory};
+
 use std::alloc::{AllocError, AllocFailed};
 use std::fmt;
 
@@ -24,7 +28,9 @@ pub enum LineFault {
 
 impl LineFault {
     /// What is wrong, for a person.
-    pub fn text(self) -> &'static str {
+    pub fn text(self) -> &'static str
+        ensures { result.now ≡ fault_text self }
+    {
         match self {
             LineFault::UnknownWord => {
                 "the first word is section, frame, drop, repeat, give, erase, program, close, reopen or verify"
@@ -47,7 +53,10 @@ impl LineFault {
     }
 }
 
+/// What is wrong, printed.
 impl fmt::Display for LineFault {
+    ghost output = { λ e. Some (fault_text e) };
+
     fn fmt<W: fmt::Write>(&self, f: &mut fmt::Formatter<W>) -> fmt::Result {
         f.write_str(self.text())
     }
@@ -62,8 +71,10 @@ pub enum ScriptFault {
 }
 
 impl From<AllocError> for ScriptFault {
+    ghost from_gives = { λ _ r. r ≡ Memory };
+
     fn from(_why: AllocError) -> ScriptFault {
-        ScriptFault::Memory
+        Self::Memory
     }
 }
 
