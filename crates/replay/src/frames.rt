@@ -8,13 +8,6 @@ use scripts::order::{FrameLine, Order, Step};
 use std::alloc::Global;
 use traces::call::Call;
 
-/// A step of a script, and the bytes of its frame; none where it has no frame.
-#[derive(Drop)]
-pub(crate) struct CutStep<'a> {
-    step: &'a Step,
-    bytes: Vec<u8>,
-}
-
 /// So many blocks of a body from a block on, as far as the body goes.
 fn part_of(body: &[u8], n: usize, first: u32, count: u32) -> &[u8]
     requires { n ≤ 16 }
@@ -41,24 +34,24 @@ fn cut(heap: Global, body: &[u8], n: usize, frame: FrameLine, line: u32) -> Resu
     Ok(bytes)
 }
 
-/// The steps, with their frames cut from a body.
-pub(crate) fn cut_frames<'a>(
+/// The frames of the steps that have one, in order, cut from a body.
+// No list of one entry a step: a long script has few frames, and a fault is told before memory is asked
+// for what comes after it.
+pub(crate) fn cut_frames(
     heap: Global,
     body: &[u8],
     n: usize,
-    steps: &'a [Step],
-) -> Result<Vec<CutStep<'a>>, Fault>
+    steps: &[Step],
+) -> Result<Vec<Vec<u8>>, Fault>
     requires { n ≤ 16 }
 {
-    let mut cuts = Vec::with_capacity(heap, steps.len())?;
+    let mut frames = Vec::new(heap);
     for step in steps {
-        let bytes = match step.order.frame() {
-            Some(frame) => cut(heap, body, n, frame, step.line)?,
-            None => Vec::new(heap),
-        };
-        cuts.push(CutStep { step, bytes })?;
+        if let Some(frame) = step.order.frame() {
+            frames.push(cut(heap, body, n, frame, step.line)?)?;
+        }
     }
-    Ok(cuts)
+    Ok(frames)
 }
 
 /// The call that an order makes, with the bytes of its frame.
@@ -78,11 +71,21 @@ fn call_of<'a>(order: Order, bytes: &'a [u8]) -> Option<Call<'a>> {
     }
 }
 
-/// The calls of the steps, in order. A lost frame makes none.
-pub(crate) fn calls_of<'a>(heap: Global, steps: &'a [CutStep<'_>]) -> Result<Vec<Call<'a>>, Fault> {
+/// The calls of the steps, in order, each with the frame that was cut for it. A lost frame makes none.
+pub(crate) fn calls_of<'a>(
+    heap: Global,
+    steps: &[Step],
+    frames: &'a [Vec<u8>],
+) -> Result<Vec<Call<'a>>, Fault> {
+    let mut frames = frames.iter();
     let mut calls = Vec::new(heap);
-    for CutStep { step, bytes } in steps {
-        if let Some(call) = call_of(step.order, bytes.as_slice()) {
+    for step in steps {
+        let frame = match step.order.frame() {
+            Some(_) => frames.next(),
+            None => None,
+        };
+        let bytes = frame.map_or(&[][..], |bytes| bytes.as_slice());
+        if let Some(call) = call_of(step.order, bytes) {
             calls.push(call)?;
         }
     }

@@ -102,8 +102,8 @@ fn run_on<C: BlockCipher, T: Target>(
     let n = setting.section.cipher.block_length();
     let sent = own_body(setting.file.as_slice(), &setting.section);
     let steps = setting.script.steps.as_slice();
-    let cuts = cut_frames(heap, sent, n, steps)?;
-    let calls = calls_of(heap, cuts.as_slice())?;
+    let frames = cut_frames(heap, sent, n, steps)?;
+    let calls = calls_of(heap, steps, frames.as_slice())?;
     make_calls(heap, setting, cipher, target, sent, calls.as_slice())
 }
 
